@@ -1,0 +1,8 @@
+//! The fields of a frame: Ethernet II with at most one tag, IPv4 or IPv6, TCP or UDP.
+#![tactic(auto)]
+
+mod parsing;
+mod parsed;
+
+pub use parsing::parse;
+pub use parsed::{Kind, Parsed};
