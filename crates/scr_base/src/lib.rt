@@ -1,13 +1,18 @@
-// A library with one function.
+//! What every crate of `scr` speaks of: rows, verdicts, words, streams of bytes, and numbers as text.
 #![tactic(auto)]
 
-ghost use Rattle.std.specs.Prelude.{◌≡◌};
-ghost use Rattle.scr_base.specs.Echo.{echo_of};
+mod batch;
+mod number;
+mod row;
+mod sink;
+mod source;
+mod word;
+mod writing;
 
-// The `ensures` clause is the contract: what `echo` returns is `echo_of` of its argument, a definition
-// in `specs/Echo.antt`, which a caller's clause can cite too.
-pub fn echo(x: usize) -> usize
-    ensures { result ≡ echo_of x }
-{
-    x
-}
+pub use batch::Batch;
+pub use number::{NumberError, read_number};
+pub use row::{Row, Verdict};
+pub use sink::{Sink, SinkError};
+pub use source::{Failed, Source};
+pub use word::{OutOfMemory, Word};
+pub use writing::{put_all, put_decimal};

@@ -1,0 +1,77 @@
+-- What a sink gains by one write after another.
+use Rattle.std.proofs.Common.{◌≡◌, ℕ, ◌+◌, ◌≤◌, ◌^◌, ◌-◌, List, [], ◌∷◌, ◌++◌, take, drop, length, Option, Some, None, Result, Ok, Err, refl, sym, ap, ◌∙◌, append_assoc, arith, min, subst}
+use Rattle.std.proofs.lemmas.List.{append-nil, take-append-drop}
+use Rattle.std.specs.Io.KnownBytes.{Appends, Keeps}
+use Rattle.scr_base.specs.Causes.{Rose, HasSinkCause}
+use Rattle.scr_base.specs.Streams.{AppendsPrefix, Passes, WritesText, BatchesText}
+
+-- nothing appended
+pub Appends-none : (a : Option (List ℕ)) → Appends a a []
+Appends-none None = tt
+Appends-none (Some x) = sym (append-nil x)
+
+pub Appends-keeps : (a b c : Option (List ℕ)) (x : List ℕ) → Appends a b x → Keeps b c → Appends a c x
+Appends-keeps None b c x gained kept = tt
+Appends-keeps (Some a) None c x gained kept = absurd gained
+Appends-keeps (Some a) (Some b) None x gained kept = absurd kept
+Appends-keeps (Some a) (Some b) (Some c) x gained kept = kept ∙ gained
+
+-- one text after another
+pub Appends-then : (a b c : Option (List ℕ)) (x y : List ℕ) → Appends a b x → Appends b c y → Appends a c (x ++ y)
+Appends-then None b c x y first second = tt
+Appends-then (Some a) None c x y first second = absurd first
+Appends-then (Some a) (Some b) None x y first second = absurd second
+Appends-then (Some a) (Some b) (Some c) x y first second = second ∙ ap (λ (t : List ℕ). t ++ y) first ∙ append_assoc a x y
+
+-- a batch passed on one text after another
+pub Passes-then : (a b c : Option (List ℕ)) (p q r x y : List ℕ) → Passes a b p q x → Passes b c q r y → Passes a c p r (x ++ y)
+Passes-then a b c p q r x y first second = record {
+  sent = first.sent ++ second.sent;
+  gained = Appends-then a b c first.sent second.sent first.gained second.gained;
+  parts =
+      sym (append_assoc p x y) ∙ ap (λ (t : List ℕ). t ++ y) first.parts ∙ append_assoc first.sent q y
+      ∙ ap (λ (t : List ℕ). first.sent ++ t) second.parts ∙ sym (append_assoc first.sent second.sent r);
+}
+
+-- a write that failed behind texts that were passed on
+pub Passes-stops : (a b c : Option (List ℕ)) (p q x y : List ℕ) → Passes a b p q x → AppendsPrefix b c (q ++ y) → AppendsPrefix a c (p ++ (x ++ y))
+Passes-stops a b c p q x y first second = record {
+  sent = first.sent ++ second.sent;
+  rest = second.rest;
+  gained = Appends-then a b c first.sent second.sent first.gained second.gained;
+  parts =
+      sym (append_assoc p x y) ∙ ap (λ (t : List ℕ). t ++ y) first.parts ∙ append_assoc first.sent q y
+      ∙ ap (λ (t : List ℕ). first.sent ++ t) second.parts ∙ sym (append_assoc first.sent second.sent second.rest);
+}
+
+-- a front of a text is a front of a longer one
+pub AppendsPrefix-longer : (a b : Option (List ℕ)) (p x y : List ℕ) → AppendsPrefix a b (p ++ x) → AppendsPrefix a b (p ++ (x ++ y))
+AppendsPrefix-longer a b p x y front = record {
+  sent = front.sent;
+  rest = front.rest ++ y;
+  gained = front.gained;
+  parts = sym (append_assoc p x y) ∙ ap (λ (t : List ℕ). t ++ y) front.parts ∙ append_assoc front.sent front.rest y;
+}
+
+-- bytes from the front of what is held go out
+pub Passes-sends : (a b c : Option (List ℕ)) (n : ℕ) (p q x : List ℕ) → Passes a b p q x → Appends b c (take n q) → Passes a c p (drop n q) x
+Passes-sends a b c n p q x passed gained = record {
+  sent = passed.sent ++ take n q;
+  gained = Appends-then a b c passed.sent (take n q) passed.gained gained;
+  parts = passed.parts ∙ ap (λ (t : List ℕ). passed.sent ++ t) (sym (take-append-drop n q)) ∙ sym (append_assoc passed.sent (take n q) (drop n q));
+}
+
+-- a text that is written behind what was held, with nothing held any more
+pub WritesText-behind : {E : Type 0} (a b c : Option (List ℕ)) (held holds text : List ℕ) (result : Result Unit E)
+    → Appends a b held → holds ≡ [] → WritesText b c result text → BatchesText a c held holds result text
+WritesText-behind a b c held holds text (Ok u) before empty gained = record {
+  sent = held ++ text;
+  gained = Appends-then a b c held text before gained;
+  parts = sym (ap (λ (t : List ℕ). (held ++ text) ++ t) empty ∙ append-nil (held ++ text));
+}
+WritesText-behind a b c held holds text (Err e) before empty front = record {
+  sent = held ++ front.sent;
+  rest = front.rest;
+  gained = Appends-then a b c held front.sent before front.gained;
+  parts = ap (λ (t : List ℕ). held ++ t) front.parts ∙ sym (append_assoc held front.sent front.rest);
+}
