@@ -1,10 +1,10 @@
 -- The records of a capture (libpcap file format, version 2.4): a header of 16 bytes with seconds at 0, a fraction of
 -- a second at 4, the captured length at 8 and the original length, which is not looked at, at 12; then as many bytes
 -- as the captured length says, which is at most 262,144.
-use Rattle.std.specs.Prelude.{◌≡◌, ◌≢◌, ◌⊎◌, ℕ, ◌+◌, ◌*◌, ◌/◌, ◌≤◌, List, [], ◌∷◌, ◌++◌, length, drop, Option, ◌==◌, nat_lt, if◌then◌else◌}
+use Rattle.std.specs.Prelude.{◌≡◌, ◌≢◌, ◌⊎◌, ℕ, ◌+◌, ◌*◌, ◌/◌, ◌<◌, ◌≤◌, List, [], ◌∷◌, ◌++◌, length, drop, Option, ◌==◌, nat_lt, if◌then◌else◌}
 use Rattle.std.specs.Io.KnownBytes.{Consumes}
 use Rattle.scr_pcap.specs.declared.error.CaptureError.{CaptureError}
-use Rattle.scr_pcap.specs.declared.error.CaptureError.TheVariants.{ShortRecord, LongRecord, TooMany}
+use Rattle.scr_pcap.specs.declared.error.CaptureError.TheVariants.{ShortHeader, Magic, Version, LinkType, ShortRecord, LongRecord, TooMany, ReadFault}
 use Rattle.scr_pcap.specs.declared.format.Format.{Format}
 use Rattle.scr_pcap.specs.declared.format.Fraction.{Fraction}
 use Rattle.scr_pcap.specs.declared.format.Fraction.TheVariants.{Microseconds, Nanoseconds}
@@ -59,11 +59,22 @@ rest_fault format taken rest =
     (if nat_lt CAPTURED (captured_in format rest) then LongRecord (taken + 1) (captured_in format rest)
     else ShortRecord (taken + 1)))
 
--- behind so many records stands a rest of which no further record is taken, and this is the fault
+-- behind so many records stands a rest of which no further record is taken, and this is its fault
 pub record IsFaultyRest (format : Format) (taken : ℕ) (rest : List ℕ) (fault : CaptureError) : Type 0 where
   pub more : rest ≢ []
   pub greatest : (taken ≡ RECORDS) ⊎ NoRecord format rest
-  pub fault : fault ≡ rest_fault format taken rest
+  pub first_test : fault ≡ rest_fault format taken rest
+
+-- the faults that may come behind so many records
+abbrev pub IsRecordFault : ℕ → CaptureError → Type 0
+IsRecordFault taken ShortHeader = ⊥
+IsRecordFault taken Magic = ⊥
+IsRecordFault taken Version = ⊥
+IsRecordFault taken LinkType = ⊥
+IsRecordFault taken (ShortRecord number) = number ≡ taken + 1
+IsRecordFault taken (LongRecord number length) = (number ≡ taken + 1) × (CAPTURED < length)
+IsRecordFault taken (TooMany limit) = (taken ≡ RECORDS) × (limit ≡ RECORDS)
+IsRecordFault taken ReadFault = Unit {0}
 
 -- a source, by the bytes that it had left before a call and after it, gave the bytes of this record
 abbrev pub TakesRecord : Format → Option (List ℕ) → Option (List ℕ) → Record → Type 0

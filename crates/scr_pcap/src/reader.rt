@@ -2,7 +2,7 @@ ghost use Rattle.std.specs.Prelude.{◌≡◌, ◌≤◌, ◌<◌, ◌+◌, ℕ,
 ghost use Rattle.std.specs.Io.KnownBytes.{IsAtEnd};
 ghost use Rattle.scr_base.specs.Causes.{Rose};
 ghost use Rattle.scr_pcap.specs.Header.{header_of, IsHeaderFault};
-ghost use Rattle.scr_pcap.specs.Records.{Record, RECORDS, TakesRecord, IsFaultyRest};
+ghost use Rattle.scr_pcap.specs.Records.{Record, RECORDS, TakesRecord, IsFaultyRest, IsRecordFault};
 ghost use Rattle.scr_pcap.specs.State.{ReaderState, IsFresh, answer_of};
 
 use crate::error::CaptureError;
@@ -93,6 +93,7 @@ impl Reader {
         ensures refused { IfErr result (λ error. self.new ≡ record self.old { progress = Progress.Refused error }) }
         ensures faulty { IfErr result (λ error. (error ≡ CaptureError.ReadFault → ⊥) → self.old.progress ≡ Progress.Reading
             → IfSome (S.left source.old) (λ bytes. IsFaultyRest self.old.format self.old.taken bytes error)) }
+        ensures named { self.old.progress ≡ Progress.Reading → IfErr result (IsRecordFault self.old.taken) }
         ensures later { S.faults source.old ≤ S.faults source.new }
         ensures fault { self.old.progress ≡ Progress.Reading → result ≡ Err CaptureError.ReadFault
             → Rose (S.faults source.old) (S.faults source.new) }
