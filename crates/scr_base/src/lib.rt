@@ -3,6 +3,7 @@
 
 mod batch;
 mod number;
+mod piece;
 mod row;
 mod sink;
 mod source;
@@ -11,6 +12,7 @@ mod writing;
 
 pub use batch::Batch;
 pub use number::{NumberError, read_number};
+pub use piece::Piece;
 pub use row::{Row, Verdict};
 pub use sink::{Sink, SinkError};
 pub use source::{Failed, Source};
