@@ -2,10 +2,12 @@
 #![tactic(auto)]
 
 mod batch;
+mod copying;
 mod number;
 mod row;
 mod sink;
 mod source;
+mod sure;
 mod word;
 mod writing;
 
@@ -14,5 +16,6 @@ pub use number::{NumberError, read_number};
 pub use row::{Row, Verdict};
 pub use sink::{Sink, SinkError};
 pub use source::{Failed, Source};
+pub use sure::{SureSink, SureSource};
 pub use word::{OutOfMemory, Word};
 pub use writing::{put_all, put_decimal};
