@@ -3,6 +3,7 @@
 
 mod batch;
 mod copying;
+mod memory;
 mod number;
 mod row;
 mod sink;
@@ -12,6 +13,7 @@ mod word;
 mod writing;
 
 pub use batch::Batch;
+pub use memory::{MemSink, MemSource};
 pub use number::{NumberError, read_number};
 pub use row::{Row, Verdict};
 pub use sink::{Sink, SinkError};
