@@ -3,6 +3,7 @@
 -- TCP (RFC 9293, section 3.1) and UDP (RFC 768). No checksum is tested, and no option or extension header is read.
 use Rattle.std.specs.Prelude.{ℕ, ◌+◌, ◌*◌, ◌/◌, ◌%◌, Bool, ◌&&◌, ◌||◌, List, length, take, drop, slice_index, Option, Some, None, ◌==◌, nat_lt, nat_le, if◌then◌else◌}
 use Rattle.std.specs.Int.{Width, w16, w32, w128, byte_len, from_be_bytes}
+use Rattle.scr_frame.specs.declared.packet.Packet.{Packet}
 use Rattle.scr_frame.specs.declared.parsed.Kind.{Kind}
 use Rattle.scr_frame.specs.declared.parsed.Kind.TheVariants.{Other, Bare, Tcp, Udp}
 use Rattle.scr_frame.specs.declared.parsed.Parsed.{Parsed}
@@ -26,19 +27,6 @@ ethernet frame =
     (if number_at w16 12 frame == 0x8100
      then (if nat_lt (length frame) 18 then None else Some (number_at w16 16 frame, drop 18 frame))
      else Some (number_at w16 12 frame, drop 14 frame))
-
--- what the header of an IP packet says
-pub record Packet : Type 0 where
-  pub family : ℕ
-  pub source : ℕ
-  pub destination : ℕ
-  pub protocol : ℕ
-  -- the offset of a fragment, which is 0 for a whole packet
-  pub fragment : ℕ
-  -- the bytes of the header
-  pub header : ℕ
-  -- the bytes of the packet, header included
-  pub length : ℕ
 
 -- the length that a header tells; 0 stands for the captured bytes
 abbrev pub told_or_captured : ℕ → ℕ → List ℕ → ℕ
