@@ -6,5 +6,8 @@ mod packet;
 mod parsed;
 mod parsing;
 
-pub use parsing::parse;
 pub use parsed::{Kind, Parsed};
+pub use parsing::parse;
+
+#[cfg(test)]
+mod tests;

@@ -7,9 +7,13 @@ use crate::packet::{Packet, ipv4, ipv6};
 use crate::parsed::{Kind, Parsed};
 
 const TYPE_IPV4: u16 = 0x0800;
+
 const TYPE_IPV6: u16 = 0x86DD;
+
 const TYPE_TAG: u16 = 0x8100;
+
 const PROTOCOL_TCP: u8 = 6;
+
 const PROTOCOL_UDP: u8 = 17;
 
 const OTHER: Parsed = Parsed {
@@ -71,10 +75,11 @@ fn transport(packet: &Packet, bytes: &[u8]) -> Parsed
     let start = usize::from(packet.header);
     let end = bytes.len().min(packet.length as usize);
     match packet.protocol {
-        PROTOCOL_TCP if packet.fragment == 0 && start + 20 <= end && bytes[start + 12] >> 4 >= 5 => {
-            let header = &bytes[start..];
-            packet.with_transport(Kind::Tcp, u16_at(header, 0), u16_at(header, 2), header[13])
-        }
+        PROTOCOL_TCP if packet.fragment == 0 && start + 20 <= end && bytes[start + 12] >> 4 >= 5 =>
+            {
+                let header = &bytes[start..];
+                packet.with_transport(Kind::Tcp, u16_at(header, 0), u16_at(header, 2), header[13])
+            }
         PROTOCOL_UDP if packet.fragment == 0 && start + 8 <= end => {
             let header = &bytes[start..];
             packet.with_transport(Kind::Udp, u16_at(header, 0), u16_at(header, 2), 0)
