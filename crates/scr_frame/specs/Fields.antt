@@ -2,6 +2,7 @@
 -- Ethernet II with at most one tag (IEEE 802.1Q), IPv4 (RFC 791, section 3.1), IPv6 (RFC 8200, section 3),
 -- TCP (RFC 9293, section 3.1) and UDP (RFC 768). No checksum is tested, and no option or extension header is read.
 -- A length of 0 in an IP header stands for the captured bytes, which is this product's rule and not a standard's.
+-- What the header of an IP packet says is the struct Packet of src/packet.rt.
 use Rattle.std.specs.Prelude.{ℕ, ◌+◌, ◌*◌, ◌/◌, ◌%◌, Bool, ◌&&◌, ◌||◌, List, length, take, drop, slice_index, Option, Some, None, ◌==◌, nat_lt, nat_le, if◌then◌else◌}
 use Rattle.std.specs.Int.{Width, w16, w32, w128, byte_len, from_be_bytes}
 use Rattle.scr_frame.specs.declared.packet.Packet.{Packet}
@@ -96,16 +97,25 @@ with_transport kind packet source_port destination_port flags = record {
   length = packet.length;
 }
 
--- TCP, which is protocol 6: ports at 0 and 2, data offset in the high half of byte 12, which is at least 5, and
--- flags in byte 13. UDP, which is protocol 17: ports at 0 and 2. A fragment behind the first has neither header.
+-- whether there is a TCP header, which has 20 bytes and a data offset of at least 5 in the high half of its byte 12.
+-- TCP is protocol 6, and a fragment behind the first has no header of it.
+abbrev pub has_tcp : Packet → List ℕ → Bool
+has_tcp packet bytes =
+    (packet.fragment == 0) && (packet.protocol == 6) && holds_header 20 packet bytes
+    && nat_le 5 (slice_index (drop packet.header bytes) 12 / 16)
+
+-- whether there is a UDP header, which has 8 bytes. UDP is protocol 17.
+abbrev pub has_udp : Packet → List ℕ → Bool
+has_udp packet bytes = (packet.fragment == 0) && (packet.protocol == 17) && holds_header 8 packet bytes
+
+-- TCP: ports at 0 and 2, flags in byte 13. UDP: ports at 0 and 2.
 unfoldable pub transport : Packet → List ℕ → Parsed
 transport packet bytes =
-    let behind = drop packet.header bytes in
-    if (packet.fragment == 0) && (packet.protocol == 6) && holds_header 20 packet bytes
-    && nat_le 5 (slice_index behind 12 / 16)
-    then with_transport Tcp packet (number_at w16 0 behind) (number_at w16 2 behind) (slice_index behind 13)
-    else (if (packet.fragment == 0) && (packet.protocol == 17) && holds_header 8 packet bytes
-    then with_transport Udp packet (number_at w16 0 behind) (number_at w16 2 behind) 0
+    let header = drop packet.header bytes in
+    if has_tcp packet bytes
+    then with_transport Tcp packet (number_at w16 0 header) (number_at w16 2 header) (slice_index header 13)
+    else (if has_udp packet bytes
+    then with_transport Udp packet (number_at w16 0 header) (number_at w16 2 header) 0
     else with_transport Bare packet 0 0 0)
 
 -- the fields of an IP packet, where there is one

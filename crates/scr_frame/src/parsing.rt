@@ -12,9 +12,9 @@ const TYPE_IPV6: u16 = 0x86DD;
 
 const TYPE_TAG: u16 = 0x8100;
 
-const PROTOCOL_TCP: u8 = 6;
+const TCP: u8 = 6;
 
-const PROTOCOL_UDP: u8 = 17;
+const UDP: u8 = 17;
 
 const OTHER: Parsed = Parsed {
     kind: Kind::Other,
@@ -48,10 +48,10 @@ pub fn parse(bytes: &[u8]) -> Parsed
     }
 }
 
-/// The type of a frame, and the bytes behind it.
+/// The type of a frame, and the bytes behind it; none where the frame ends before that.
 #[tactic(auto, unfolding(crate::specs::Fields::ethernet))]
 fn ethernet(frame: &[u8]) -> Option<(u16, &[u8])>
-    ensures fields { option_map (λ x. (x.0, x.1.now)) result ≡ ethernet frame.now }
+    ensures parts { option_map (λ x. (x.0, x.1.now)) result ≡ ethernet frame.now }
     ensures shorter { IfSome result (λ x. length x.1.now ≤ length frame.now) }
 {
     if frame.len() < 14 {
@@ -75,12 +75,11 @@ fn transport(packet: &Packet, bytes: &[u8]) -> Parsed
     let start = usize::from(packet.header);
     let end = bytes.len().min(packet.length as usize);
     match packet.protocol {
-        PROTOCOL_TCP if packet.fragment == 0 && start + 20 <= end && bytes[start + 12] >> 4 >= 5 =>
-            {
-                let header = &bytes[start..];
-                packet.with_transport(Kind::Tcp, u16_at(header, 0), u16_at(header, 2), header[13])
-            }
-        PROTOCOL_UDP if packet.fragment == 0 && start + 8 <= end => {
+        TCP if packet.fragment == 0 && start + 20 <= end && bytes[start + 12] >> 4 >= 5 => {
+            let header = &bytes[start..];
+            packet.with_transport(Kind::Tcp, u16_at(header, 0), u16_at(header, 2), header[13])
+        }
+        UDP if packet.fragment == 0 && start + 8 <= end => {
             let header = &bytes[start..];
             packet.with_transport(Kind::Udp, u16_at(header, 0), u16_at(header, 2), 0)
         }
