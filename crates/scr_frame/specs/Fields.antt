@@ -3,7 +3,7 @@
 -- TCP (RFC 9293, section 3.1) and UDP (RFC 768). No checksum is tested, and no option or extension header is read.
 -- A length of 0 in an IP header stands for the captured bytes, which is this product's rule and not a standard's.
 -- What the header of an IP packet says is the struct Packet of src/packet.rt.
-use Rattle.std.specs.Prelude.{ℕ, ◌+◌, ◌*◌, ◌/◌, ◌%◌, Bool, ◌&&◌, ◌||◌, List, length, take, drop, slice_index, Option, Some, None, ◌==◌, nat_lt, nat_le, if◌then◌else◌}
+use Rattle.std.specs.Prelude.{ℕ, ◌+◌, ◌*◌, ◌/◌, ◌%◌, Bool, ◌&&◌, List, length, take, drop, slice_index, Option, Some, None, ◌==◌, nat_lt, nat_le, if◌then◌else◌}
 use Rattle.std.specs.Int.{Width, w16, w32, w128, byte_len, from_be_bytes}
 use Rattle.scr_frame.specs.declared.packet.Packet.{Packet}
 use Rattle.scr_frame.specs.declared.parsed.Kind.{Kind}
