@@ -1,5 +1,5 @@
 -- What a sink gains by one write after another.
-use Rattle.std.proofs.Common.{◌≡◌, ℕ, List, [], ◌++◌, take, drop, Option, Some, None, Result, Ok, Err, sym, ap, ◌∙◌, append_assoc}
+use Rattle.std.proofs.Common.{◌≡◌, ℕ, List, [], ◌++◌, take, drop, Option, Some, None, Result, Ok, Err, sym, ap, ◌∙◌, append_assoc, subst}
 use Rattle.std.proofs.lemmas.List.{append-nil, take-append-drop}
 use Rattle.std.specs.Io.KnownBytes.{Appends, Keeps}
 use Rattle.scr_base.specs.Streams.{AppendsPrefix, Passes, WritesText, BatchesText}
@@ -73,4 +73,25 @@ WritesText-behind a b c held holds text (Err e) before empty front = record {
   rest = front.rest;
   gained = Appends-then a b c held front.sent before front.gained;
   parts = ap (λ (t : List ℕ). held ++ t) front.parts ∙ sym (append_assoc held front.sent front.rest);
+}
+
+-- a text behind texts that were passed on, whole or not
+pub BatchesText-then : {E : Type 0} (a b c : Option (List ℕ)) (p q r x y : List ℕ) (result : Result Unit E)
+    → Passes a b p q x → BatchesText b c q r result y → BatchesText a c p r result (x ++ y)
+BatchesText-then a b c p q r x y (Ok u) first second = Passes-then a b c p q r x y first second
+BatchesText-then a b c p q r x y (Err e) first second = Passes-stops a b c p q x y first second
+
+-- what was passed on to an empty batch, and then what the batch holds
+pub WritesText-finish : {E : Type 0} (a b c : Option (List ℕ)) (p q x : List ℕ) (result : Result Unit E)
+    → p ≡ [] → Passes a b p q x → WritesText b c result q → WritesText a c result x
+WritesText-finish a b c p q x (Ok u) empty passed gained =
+    let P : List ℕ → Type 0 = λ t. Appends a c t in
+    subst P (sym passed.parts ∙ ap (λ (t : List ℕ). t ++ x) empty) (Appends-then a b c passed.sent q passed.gained gained)
+WritesText-finish a b c p q x (Err e) empty passed front = record {
+  sent = passed.sent ++ front.sent;
+  rest = front.rest;
+  gained = Appends-then a b c passed.sent front.sent passed.gained front.gained;
+  parts =
+    ap (λ (t : List ℕ). t ++ x) (sym empty) ∙ passed.parts ∙ ap (λ (t : List ℕ). passed.sent ++ t) front.parts
+    ∙ sym (append_assoc passed.sent front.sent front.rest);
 }

@@ -1,13 +1,9 @@
-// A library with one function.
+//! The run of `scr`, from the words of the command line to the report.
 #![tactic(auto)]
 
-ghost use Rattle.std.specs.Prelude.{◌≡◌};
-ghost use Rattle.scr_run.specs.Echo.{echo_of};
+mod flood;
+mod report;
+mod status;
+mod words;
 
-// The `ensures` clause is the contract: what `echo` returns is `echo_of` of its argument, a definition
-// in `specs/Echo.antt`, which a caller's clause can cite too.
-pub fn echo(x: usize) -> usize
-    ensures { result ≡ echo_of x }
-{
-    x
-}
+pub use status::{Status, WordCause, WordFault};

@@ -1,0 +1,44 @@
+-- What a run that ends so writes to standard error, and its exit code.
+use Rattle.std.specs.Prelude.{ℕ, List, [], ◌++◌, codes, decimal}
+use Rattle.scr_pcap.specs.declared.error.CaptureError.{CaptureError}
+use Rattle.scr_pcap.specs.declared.error.CaptureError.TheVariants as capture
+use Rattle.scr_run.specs.declared.status.Status.{Status}
+use Rattle.scr_run.specs.declared.status.Status.TheVariants.{Done, Words, Capture, ReadFault, WriteFault, OutOfMemory, TooMany}
+use Rattle.scr_run.specs.declared.status.WordCause.{WordCause}
+use Rattle.scr_run.specs.declared.status.WordCause.TheVariants.{NotBuilt}
+
+abbrev pub code_of : Status → ℕ
+code_of Done = 0
+code_of (Words fault) = 1
+code_of (Capture error) = 2
+code_of ReadFault = 3
+code_of WriteFault = 4
+code_of OutOfMemory = 5
+code_of (TooMany limit) = 6
+
+abbrev pub cause_name : WordCause → List ℕ
+cause_name NotBuilt = codes "NotBuilt"
+
+abbrev pub too_many_line : ℕ → List ℕ
+too_many_line limit = codes "scr: more than " ++ decimal limit ++ codes " records\n"
+
+-- the line of a malformed capture; the last two are no faults of its form
+abbrev pub capture_line : CaptureError → List ℕ
+capture_line capture.ShortHeader = codes "scr: header: ShortHeader\n"
+capture_line capture.Magic = codes "scr: header: Magic\n"
+capture_line capture.Version = codes "scr: header: Version\n"
+capture_line capture.LinkType = codes "scr: header: LinkType\n"
+capture_line (capture.ShortRecord number) = codes "scr: record " ++ decimal number ++ codes ": ShortRecord\n"
+capture_line (capture.LongRecord number length) = codes "scr: record " ++ decimal number ++ codes ": LongRecord " ++ decimal length ++ codes "\n"
+capture_line (capture.TooMany limit) = too_many_line limit
+capture_line capture.ReadFault = codes "scr: read fault\n"
+
+-- the line of a status; a run that is done writes none
+abbrev pub fault_line : Status → List ℕ
+fault_line Done = []
+fault_line (Words fault) = codes "scr: word " ++ decimal fault.word ++ codes ": " ++ cause_name fault.cause ++ codes "\n"
+fault_line (Capture error) = capture_line error
+fault_line ReadFault = codes "scr: read fault\n"
+fault_line WriteFault = codes "scr: write fault\n"
+fault_line OutOfMemory = codes "scr: out of memory\n"
+fault_line (TooMany limit) = too_many_line limit
