@@ -1,3 +1,7 @@
+ghost use Rattle.std.specs.Prelude.{◌≡◌};
+
+use scr_base::Failed;
+
 /// Why a capture can't be read, or not on. Records are numbered from 1.
 #[derive(Clone, Copy, Debug, PartialEq, Eq)]
 pub enum CaptureError {
@@ -17,4 +21,14 @@ pub enum CaptureError {
     TooMany { limit: u32 },
     /// The source failed.
     ReadFault,
+}
+
+impl From<Failed> for CaptureError {
+    ghost use Rattle.scr_pcap.specs.declared.error.CaptureError.TheVariants.{ReadFault};
+
+    ghost from_gives = { λ _ error. error ≡ ReadFault };
+
+    fn from(_: Failed) -> Self {
+        CaptureError::ReadFault
+    }
 }

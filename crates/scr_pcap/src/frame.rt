@@ -1,7 +1,10 @@
-ghost use Rattle.std.specs.Prelude.{◌≡◌, ◌≤◌, ℕ, List, [], length, take, vec_len, IfOk};
+ghost use Rattle.std.specs.Prelude.{◌≡◌, ◌≤◌, ◌<◌, ℕ, List, [], length, take, vec_len, IfOk};
+ghost use Rattle.std.specs.Io.KnownBytes.{Consumes, IsAtEnd};
+ghost use Rattle.scr_base.specs.Causes.{HasCause};
 ghost use Rattle.scr_pcap.specs.declared.frame.TheConstants.{LONGEST};
 
-use scr_base::OutOfMemory;
+use crate::filling::fill;
+use scr_base::{Failed, OutOfMemory, Source};
 use std::alloc::Global;
 use std::marker::Model;
 
@@ -39,4 +42,30 @@ impl FrameBuf {
     {
         &self.room[..self.filled]
     }
+
+    // Takes a frame of this size, or as much of it as stands before the end, and answers how many bytes that was.
+    pub(crate) fn fill<S: Source>(&mut self, source: &mut S, size: usize) -> Result<usize, Failed>
+        requires { size ≤ LONGEST }
+        ensures within { IfOk result (λ count. count ≤ size) }
+        ensures count { IfOk result (λ count. count ≡ length self.new) }
+        ensures taken { IfOk result (λ _. Consumes (S.left source.old) (S.left source.new) self.new) }
+        ensures end { IfOk result (λ count. count < size → IsAtEnd (S.left source.new)) }
+        ensures cause { HasCause S.faults source.old source.new result }
+    {
+        self.filled = 0;
+        let count = fill_front(source, &mut self.room, size)?;
+        self.filled = count;
+        Ok(count)
+    }
+}
+
+// Fills the first `size` bytes of the room, as `fill` does.
+fn fill_front<S: Source>(source: &mut S, room: &mut [u8], size: usize) -> Result<usize, Failed>
+    requires { size ≤ length room.old }
+    ensures within { IfOk result (λ count. count ≤ size) }
+    ensures taken { IfOk result (λ count. Consumes (S.left source.old) (S.left source.new) (take count room.new)) }
+    ensures end { IfOk result (λ count. count < size → IsAtEnd (S.left source.new)) }
+    ensures cause { HasCause S.faults source.old source.new result }
+{
+    fill(source, &mut room[..size])
 }

@@ -2,8 +2,10 @@
 #![tactic(auto)]
 
 mod error;
+mod filling;
 mod format;
 mod frame;
+mod header;
 mod laws;
 mod reader;
 

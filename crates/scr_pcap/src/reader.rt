@@ -1,18 +1,23 @@
-ghost use Rattle.std.specs.Prelude.{◌≡◌, ◌≤◌, ◌<◌, ◌+◌, ℕ, Bool, true, length, drop, Option, Some, None, Ok, Err, IfOk, IfErr, IfSome, OnOk, OnSome};
+ghost use Rattle.std.specs.Prelude.{◌≡◌, ◌≢◌, ◌⊎◌, ◌≤◌, ◌<◌, ◌+◌, ℕ, Bool, true, length, drop, Option, Some, None, Ok, Err, IfOk, IfErr, IfSome, OnErr};
 ghost use Rattle.std.specs.Io.KnownBytes.{IsAtEnd};
 ghost use Rattle.scr_base.specs.Causes.{Rose};
 ghost use Rattle.scr_pcap.specs.Header.{header_of, IsHeaderFault};
-ghost use Rattle.scr_pcap.specs.Records.{Record, RECORDS, TakesRecord, IsFaultyRest, IsRecordFault};
+ghost use Rattle.scr_pcap.specs.Records.{Record, RECORDS, CAPTURED, TakesRecord, IsFaultyRest, IsRecordFault, rest_fault, captured_in};
 ghost use Rattle.scr_pcap.specs.State.{ReaderState, IsFresh, answer_of};
 
 use crate::error::CaptureError;
-use crate::format::{Format, Fraction, Order};
-use crate::frame::FrameBuf;
+use crate::filling::fill;
+use crate::format::Format;
+use crate::frame::{FrameBuf, LONGEST};
+use crate::header::{header_of, HEADER};
 use scr_base::Source;
 use std::marker::Model;
 
 /// The most records that are taken of a capture.
 pub const LIMIT: u32 = 1_000_000;
+
+// The length of the header of a record, in bytes.
+const RECORD_HEADER: usize = 16;
 
 /// How far a reader has come.
 #[derive(Clone, Copy, Debug, PartialEq, Eq)]
@@ -67,7 +72,14 @@ impl Reader {
         ensures later { S.faults source.old ≤ S.faults source.new }
         ensures fault { result ≡ Err CaptureError.ReadFault → Rose (S.faults source.old) (S.faults source.new) }
     {
-        Err(CaptureError::ReadFault)
+        let mut header = [0; HEADER];
+        let count = fill(source, &mut header)?;
+        let format = header_of(&header[..count])?;
+        Ok(Reader {
+            format,
+            taken: 0,
+            progress: Progress::Reading,
+        })
     }
 
     /// Takes the next record, whose bytes `frame` then holds; `None` at the end. An error is answered again by each
@@ -88,8 +100,9 @@ impl Reader {
             (self.old.taken < RECORDS) × (self.new ≡ record self.old { taken = self.old.taken + 1 })
             × (info.number ≡ self.old.taken + 1) × (info.length ≡ length frame.new)
             × TakesRecord self.old.format (S.left source.old) (S.left source.new) (record { time = info.time; content = frame.new }))) }
-        ensures end { result ≡ Ok None → (self.new ≡ record self.old { progress = Progress.Ended })
-            × IsAtEnd (S.left source.old) × IsAtEnd (S.left source.new) }
+        ensures ended { result ≡ Ok None → self.new ≡ record self.old { progress = Progress.Ended } }
+        ensures end { self.old.progress ≡ Progress.Reading → result ≡ Ok None
+            → IsAtEnd (S.left source.old) × IsAtEnd (S.left source.new) }
         ensures refused { IfErr result (λ error. self.new ≡ record self.old { progress = Progress.Refused error }) }
         ensures faulty { IfErr result (λ error. (error ≡ CaptureError.ReadFault → ⊥) → self.old.progress ≡ Progress.Reading
             → IfSome (S.left source.old) (λ bytes. IsFaultyRest self.old.format self.old.taken bytes error)) }
@@ -98,7 +111,86 @@ impl Reader {
         ensures fault { self.old.progress ≡ Progress.Reading → result ≡ Err CaptureError.ReadFault
             → Rose (S.faults source.old) (S.faults source.new) }
     {
-        self.progress = Progress::Refused(CaptureError::ReadFault);
-        Err(CaptureError::ReadFault)
+        match self.progress {
+            Progress::Reading => {}
+            Progress::Ended => return Ok(None),
+            Progress::Refused(error) => return Err(error),
+        }
+        let next = self.take_record(source, frame);
+        match next {
+            Ok(Some(_)) => self.taken += 1,
+            Ok(None) => self.progress = Progress::Ended,
+            Err(error) => self.progress = Progress::Refused(error),
+        }
+        next
+    }
+
+    // The next record, whose bytes `frame` then holds; `None` at the end.
+    fn take_record<S: Source>(
+        &self,
+        source: &mut S,
+        frame: &mut FrameBuf,
+    ) -> Result<Option<RecordInfo>, CaptureError>
+        ensures record { IfOk result (λ next. IfSome next (λ info.
+            (self.now.taken < RECORDS) × (info.number ≡ self.now.taken + 1) × (info.length ≡ length frame.new)
+            × TakesRecord self.now.format (S.left source.old) (S.left source.new) (record { time = info.time; content = frame.new }))) }
+        ensures end { result ≡ Ok None → IsAtEnd (S.left source.old) × IsAtEnd (S.left source.new) }
+        ensures faulty { IfErr result (λ error. (error ≡ CaptureError.ReadFault → ⊥)
+            → IfSome (S.left source.old) (λ bytes. IsFaultyRest self.now.format self.now.taken bytes error)) }
+        ensures named { IfErr result (IsRecordFault self.now.taken) }
+        ensures later { S.faults source.old ≤ S.faults source.new }
+        ensures fault { result ≡ Err CaptureError.ReadFault → Rose (S.faults source.old) (S.faults source.new) }
+    {
+        let mut header = [0; RECORD_HEADER];
+        let count = fill(source, &mut header)?;
+        if count == 0 {
+            return Ok(None);
+        }
+        let length = self.captured(&header[..count])?;
+        if frame.fill(source, length as usize)? < length as usize {
+            return Err(self.short_record());
+        }
+        Ok(Some(RecordInfo {
+            number: self.taken + 1,
+            time: self.format.time_in(&header),
+            length,
+        }))
+    }
+
+    // The captured length in the header of the next record, or the first test that fails.
+    #[tactic(auto, unfolding(crate::specs::Records::rest_fault))]
+    fn captured(&self, header: &[u8]) -> Result<u32, CaptureError>
+        ensures captured { IfOk result (λ captured.
+            (self.now.taken < RECORDS) × (16 ≤ length header.now) × (captured ≡ captured_in self.now.format header.now) × (captured ≤ CAPTURED)) }
+        ensures fault { IfErr result (λ error. error ≡ rest_fault self.now.format self.now.taken header.now) }
+        ensures test { OnErr result
+            ((self.now.taken ≡ RECORDS) ⊎ ((length header.now < 16) ⊎ (CAPTURED < captured_in self.now.format header.now))) }
+        ensures named { IfErr result (IsRecordFault self.now.taken) }
+        ensures told { result ≢ Err CaptureError.ReadFault }
+    {
+        if self.taken == LIMIT {
+            return Err(CaptureError::TooMany { limit: LIMIT });
+        }
+        if header.len() < RECORD_HEADER {
+            return Err(self.short_record());
+        }
+        let length = self.format.captured_in(header);
+        if length as usize > LONGEST {
+            return Err(CaptureError::LongRecord {
+                number: self.taken + 1,
+                length,
+            });
+        }
+        Ok(length)
+    }
+
+    #[cold]
+    #[inline(never)]
+    fn short_record(&self) -> CaptureError
+        ensures { result ≡ CaptureError.ShortRecord (self.now.taken + 1) }
+    {
+        CaptureError::ShortRecord {
+            number: self.taken + 1,
+        }
     }
 }

@@ -1,0 +1,6 @@
+pub mod Taking
+pub mod FirstBytes
+pub mod Front
+pub mod Faults
+pub mod Told
+pub mod OneReading

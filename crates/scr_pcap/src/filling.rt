@@ -1,0 +1,23 @@
+ghost use Rattle.std.specs.Prelude.{◌≡◌, ◌≤◌, ◌<◌, ℕ, length, take, IfOk};
+ghost use Rattle.std.specs.Io.KnownBytes.{Consumes, IsAtEnd};
+ghost use Rattle.scr_base.specs.Causes.{HasCause};
+
+use scr_base::{Failed, Source};
+
+// Reads until the buffer is full or the end is met, and answers how many bytes were taken.
+pub(crate) fn fill<S: Source>(source: &mut S, buf: &mut [u8]) -> Result<usize, Failed>
+    ensures within { IfOk result (λ count. count ≤ length buf.old) }
+    ensures taken { IfOk result (λ count. Consumes (S.left source.old) (S.left source.new) (take count buf.new)) }
+    ensures end { IfOk result (λ count. count < length buf.old → IsAtEnd (S.left source.new)) }
+    ensures cause { HasCause S.faults source.old source.new result }
+{
+    let mut count = 0;
+    while count < buf.len() {
+        let more = source.read(&mut buf[count..])?;
+        if more == 0 {
+            break;
+        }
+        count += more;
+    }
+    Ok(count)
+}
