@@ -14,5 +14,5 @@ pub front-of_range : (n start end : ℕ) (bytes copy : List ℕ) → n ≤ end -
 front-of_range n start end bytes copy within same =
     let cut : n + (end - (start + n)) ≡ end - start = omega arith in
     let rest : drop n (slice_range bytes start end) ≡ slice_range bytes (start + n) end =
-        rw (← cut, drop-take n (end - (start + n)) (drop start bytes), drop-drop n start bytes) refl in
+    rw (← cut, drop-take n (end - (start + n)) (drop start bytes), drop-drop n start bytes) refl in
     rw (same, ← rest) (sym (take-append-drop n (slice_range bytes start end)))

@@ -6,3 +6,7 @@ pub record ReadAhead : Type 0 where
   pub held : List ℕ
   pub rest : Option (List ℕ)
   pub faults : ℕ
+
+-- a sink that tells only how often it failed
+pub record Faults : Type 0 where
+  pub faults : ℕ

@@ -19,7 +19,7 @@ pub use number::{NumberError, read_number};
 pub use row::{Row, Verdict};
 pub use sink::{Sink, SinkError};
 pub use source::{Failed, Source};
-pub use standard::{ReaderSource, StdSource};
+pub use standard::{ReaderSource, StdSink, StdSource};
 pub use sure::{SureSink, SureSource};
 pub use word::{OutOfMemory, Word};
 pub use writing::{put_all, put_decimal};

@@ -2,7 +2,7 @@ ghost use Rattle.std.specs.Prelude.{◌≡◌, ◌≢◌, ◌≤◌, ◌<◌, �
 ghost use Rattle.std.specs.Io.KnownBytes.{Keeps, Consumes, IsAtEnd, ReadConsumes, WriteAppends, prepend_known};
 ghost use Rattle.scr_base.specs.Causes.{HasCause, HasSinkCause};
 ghost use Rattle.scr_base.specs.Memory.{counted};
-ghost use Rattle.scr_base.specs.Standard.{ReadAhead};
+ghost use Rattle.scr_base.specs.Standard.{ReadAhead, Faults};
 ghost use Rattle.scr_base.specs.declared.standard.TheConstants.{AHEAD};
 
 use crate::copying::copy_front;
@@ -31,9 +31,9 @@ impl<R: Read + Drop> Model for ReaderSource<R> {
     ghost Value = { ReadAhead };
 
     ghost view = { λ source. record {
-        held = slice_range source.bytes source.start source.end;
-        rest = R.remaining source.reader;
-        faults = source.faults;
+      held = slice_range source.bytes source.start source.end;
+      rest = R.remaining source.reader;
+      faults = source.faults;
     } };
 
     ghost invariant = { λ source. (source.start ≤ source.end) × (source.end ≤ AHEAD) };
@@ -121,5 +121,90 @@ impl<R: Read + Drop> Source for ReaderSource<R> {
         }
         self.refill()?;
         Ok(self.give(buf))
+    }
+}
+
+/// Standard output or standard error as a sink, which tells nothing of its bytes.
+#[derive(Drop)]
+pub struct StdSink {
+    stream: Stream,
+    faults: u64,
+}
+
+#[derive(Drop)]
+enum Stream {
+    Output(Stdout),
+    Error(Stderr),
+}
+
+impl Model for StdSink {
+    ghost Value = { Faults };
+
+    ghost view = { λ sink. record { faults = sink.faults } };
+}
+
+impl StdSink {
+    /// Standard output.
+    pub fn output(stream: Stdout) -> Self
+        ensures { result.faults ≡ 0 }
+    {
+        StdSink {
+            stream: Stream::Output(stream),
+            faults: 0,
+        }
+    }
+
+    /// Standard error.
+    pub fn error(stream: Stderr) -> Self
+        ensures { result.faults ≡ 0 }
+    {
+        StdSink {
+            stream: Stream::Error(stream),
+            faults: 0,
+        }
+    }
+}
+
+impl Sink for StdSink {
+    ghost written = { λ sink. None };
+
+    ghost faults = { λ sink. sink.faults };
+
+    ghost wants = { λ sink. 0 };
+
+    fn write(&mut self, piece: &[u8]) -> Result<usize, SinkError>
+        ensures bound { IfOk result (λ count. count ≤ length piece.now) }
+        ensures progress { IfOk result (λ count. 0 < length piece.now → 0 < count) }
+        ensures bytes { WriteAppends None None result piece.now }
+        ensures cause { HasSinkCause (λ sink. sink.faults) (λ sink. 0) self.old self.new result }
+        ensures error { IfErr result (λ error. error ≡ SinkError.Failed) }
+        ensures faults { self.new.faults ≡ (if is_ok result then self.old.faults else counted self.old.faults) }
+    {
+        match &mut self.stream {
+            Stream::Output(stream) => write_counted(stream, piece, &mut self.faults),
+            Stream::Error(stream) => write_counted(stream, piece, &mut self.faults),
+        }
+    }
+}
+
+// One write, which has failed too where it took nothing of a nonempty piece. A failure is counted.
+fn write_counted<W: Write>(
+    writer: &mut W,
+    piece: &[u8],
+    faults: &mut u64,
+) -> Result<usize, SinkError>
+    ensures bound { IfOk result (λ count. count ≤ length piece.now) }
+    ensures progress { IfOk result (λ count. 0 < length piece.now → 0 < count) }
+    ensures bytes { WriteAppends (W.contents writer.old) (W.contents writer.new) result piece.now }
+    ensures error { IfErr result (λ error. error ≡ SinkError.Failed) }
+    ensures faults { faults.new ≡ (if is_ok result then faults.old else counted faults.old) }
+    ensures later { faults.old ≤ faults.new }
+{
+    match writer.write(piece) {
+        Ok(count) if count > 0 || piece.is_empty() => Ok(count),
+        _ => {
+            *faults = faults.saturating_add(1);
+            Err(SinkError::Failed)
+        }
     }
 }

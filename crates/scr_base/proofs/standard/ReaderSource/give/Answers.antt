@@ -1,4 +1,4 @@
-use Rattle.std.proofs.Common.{ap, sym, ◌∙◌, ◌≤◌, ◌-◌, ℕ, arith, length, length-take, length-drop}
+use Rattle.std.proofs.Common.{ap, sym, ◌∙◌, ◌≤◌, ◌-◌, ℕ, arith, length-take}
 use Rattle.scr_base.specs.Standard.{ReadAhead}
 use Rattle.scr_base.proofs.Reading.{front-of_range}
 use Rattle.scr_base.proofs.standard.ReaderSource.give.Goals as goal
