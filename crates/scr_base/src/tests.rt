@@ -80,14 +80,15 @@ fn a_batch_writes_a_front_up_to_the_failure(rt: HostRuntime) -> Result<(), OutOf
 #[test]
 fn a_batch_takes_a_text_longer_than_its_array(rt: HostRuntime) -> Result<(), OutOfMemory> {
     let text = vec![in rt.alloc(); 7u8; 70000]?;
+    let part = &text[..60000];
     let mut sink = SureSink::new(rt.alloc(), 30000);
     let mut batch = Batch::new();
     assert_eq!(rt; batch.put(&mut sink, b"before"), Ok(()));
     assert_eq!(rt; batch.put(&mut sink, &text), Ok(()));
     assert_eq!(rt; sink.written().len(), 70006);
-    assert_eq!(rt; batch.put(&mut sink, &text[..60000]), Ok(()));
+    assert_eq!(rt; batch.put(&mut sink, part), Ok(()));
     assert_eq!(rt; sink.written().len(), 70006);
-    assert_eq!(rt; batch.put(&mut sink, &text[..60000]), Ok(()));
+    assert_eq!(rt; batch.put(&mut sink, part), Ok(()));
     assert_eq!(rt; sink.written().len(), 130006);
     assert_eq!(rt; batch.finish(&mut sink), Ok(()));
     assert_eq!(rt; sink.written().len(), 190006);
