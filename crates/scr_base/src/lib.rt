@@ -1,4 +1,24 @@
-//! What every crate of `scr` speaks of: rows, verdicts, words, streams of bytes, and numbers as text.
+//! What every crate of `scr` speaks of: rows and verdicts, words, streams of bytes, and numbers as text.
+//!
+//! **What it does.** A [`Source`] gives bytes and a [`Sink`] takes them: in memory, with calls that fail where a caller
+//! says so ([`MemSource`], [`MemSink`]) or with none ([`SureSource`], [`SureSink`]), or the standard streams of the
+//! process ([`StdSource`], [`StdSink`]). [`put_all`], [`put_decimal`] and [`Batch`] write whole texts, [`read_number`]
+//! reads a number, and a [`Word`] owns the bytes of an argument.
+//!
+//! **What a contract sees.** Bytes as a list of numbers. A stream as what it has left, or what was written to it, where
+//! it tells that, and as counts, which never fall, of its failures and of the times it wanted memory in vain. A batch as
+//! the bytes that it holds, and a word as its bytes.
+//!
+//! **What is proved.** A stream loses no byte, gives or takes none where it answers an error, and answers an error only
+//! where the count of its kind has risen. A text is written whole, or else a front of it, through a batch too. The
+//! streams in memory fail at just the calls that were named. A source that reads ahead gives what its reader gave, in
+//! order. A number is read exactly as decimal digits spell it.
+//!
+//! **What is only tested.** That calls succeed where there is memory, and that the standard streams can be opened. What
+//! they give and take is the system's: they tell nothing of it, only how often they failed.
+//!
+//! **Limits.** Counts stop at 2^64 - 1, so an error there may leave them as they are. A batch and a source that reads
+//! ahead hold 64 KiB each in themselves. A read or write that was interrupted has failed, and is not tried again.
 #![tactic(auto)]
 
 mod batch;
@@ -9,7 +29,10 @@ mod piece;
 mod row;
 mod sink;
 mod source;
+mod standard;
 mod sure;
+#[cfg(test)]
+mod tests;
 mod word;
 mod writing;
 
@@ -20,6 +43,7 @@ pub use piece::Piece;
 pub use row::{Row, Verdict};
 pub use sink::{Sink, SinkError};
 pub use source::{Failed, Source};
+pub use standard::{ReaderSource, StdSink, StdSource};
 pub use sure::{SureSink, SureSource};
 pub use word::{OutOfMemory, Word};
 pub use writing::{put_all, put_decimal};

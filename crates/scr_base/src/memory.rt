@@ -58,11 +58,11 @@ impl Model for MemSource {
     ghost Value = { SourceInMemory };
 
     ghost view = { λ memory. record {
-        left = memory.source.left;
-        limit = memory.source.limit;
-        failing = memory.calls.failing.items;
-        calls = memory.calls.made;
-        faults = memory.calls.faults;
+      left = memory.source.left;
+      limit = memory.source.limit;
+      failing = memory.calls.failing.items;
+      calls = memory.calls.made;
+      faults = memory.calls.faults;
     } };
 }
 
@@ -119,12 +119,12 @@ impl Model for MemSink {
     ghost Value = { SinkInMemory };
 
     ghost view = { λ memory. record {
-        written = memory.sink.written;
-        limit = memory.sink.limit;
-        failing = memory.calls.failing.items;
-        calls = memory.calls.made;
-        faults = memory.calls.faults;
-        wants = memory.sink.wants;
+      written = memory.sink.written;
+      limit = memory.sink.limit;
+      failing = memory.calls.failing.items;
+      calls = memory.calls.made;
+      faults = memory.calls.faults;
+      wants = memory.sink.wants;
     } };
 }
 

@@ -1,0 +1,210 @@
+ghost use Rattle.std.specs.Prelude.{◌≡◌, ◌≢◌, ◌≤◌, ◌<◌, ◌++◌, ℕ, List, [], length, min, take, drop, slice_range, None, IfOk, IfErr, OnOk, OnErr, if◌then◌else◌, is_ok};
+ghost use Rattle.std.specs.Io.KnownBytes.{Keeps, Consumes, IsAtEnd, ReadConsumes, WriteAppends, prepend_known};
+ghost use Rattle.scr_base.specs.Causes.{HasCause, HasSinkCause};
+ghost use Rattle.scr_base.specs.Memory.{counted};
+ghost use Rattle.scr_base.specs.Standard.{ReadAhead, Faults};
+ghost use Rattle.scr_base.specs.declared.standard.TheConstants.{AHEAD};
+
+use crate::copying::copy_front;
+use crate::sink::{Sink, SinkError};
+use crate::source::{Failed, Source};
+use std::io::{Read, Stderr, Stdin, Stdout, Write};
+use std::marker::Model;
+
+/// How many bytes are read at once, so that a small read costs no system call.
+const AHEAD: usize = 65536;
+
+/// A reader as a source, which reads ahead into an array of its own.
+#[derive(Drop)]
+pub struct ReaderSource<R: Read + Drop> {
+    reader: R,
+    bytes: [u8; AHEAD],
+    start: usize,
+    end: usize,
+    faults: u64,
+}
+
+/// Standard input, which tells nothing of its bytes.
+pub type StdSource = ReaderSource<Stdin>;
+
+impl<R: Read + Drop> Model for ReaderSource<R> {
+    ghost Value = { ReadAhead };
+
+    ghost view = { λ source. record {
+      held = slice_range source.bytes source.start source.end;
+      rest = R.remaining source.reader;
+      faults = source.faults;
+    } };
+
+    ghost invariant = { λ source. (source.start ≤ source.end) × (source.end ≤ AHEAD) };
+}
+
+impl<R: Read + Drop> ReaderSource<R> {
+    /// A source of what the reader gives.
+    pub fn new(reader: R) -> Self
+        ensures held { result.held ≡ [] }
+        ensures rest { result.rest ≡ R.remaining reader }
+        ensures faults { result.faults ≡ 0 }
+    {
+        ReaderSource {
+            reader,
+            bytes: [0; AHEAD],
+            start: 0,
+            end: 0,
+            faults: 0,
+        }
+    }
+
+    fn held(&self) -> &[u8]
+        ensures { result.now ≡ self.now.held }
+    {
+        &self.bytes[self.start..self.end]
+    }
+
+    // Gives bytes that it holds.
+    fn give(&mut self, buf: &mut [u8]) -> usize
+        ensures count { result ≡ min (length buf.old) (length self.old.held) }
+        ensures bytes { self.old.held ≡ take result buf.new ++ self.new.held }
+        ensures others { drop result buf.new ≡ drop result buf.old }
+        ensures rest { self.new.rest ≡ self.old.rest }
+        ensures faults { self.new.faults ≡ self.old.faults }
+    {
+        let count = copy_front(&self.bytes[self.start..self.end], buf);
+        self.start += count;
+        count
+    }
+
+    // Reads ahead, where it holds no byte. A read that was interrupted has failed.
+    #[cold]
+    #[inline(never)]
+    fn refill(&mut self) -> Result<(), Failed>
+        requires { self.old.held ≡ [] }
+        ensures bytes { OnOk result (Consumes self.old.rest self.new.rest self.new.held) }
+        ensures end { OnOk result (self.new.held ≡ [] → IsAtEnd self.new.rest) }
+        ensures kept { OnErr result (Keeps self.old.rest self.new.rest) }
+        ensures still_empty { OnErr result (self.new.held ≡ []) }
+        ensures faults { self.new.faults ≡ (if is_ok result then self.old.faults else counted self.old.faults) }
+        ensures later { self.old.faults ≤ self.new.faults }
+    {
+        match self.reader.read(&mut self.bytes) {
+            Ok(count) => {
+                self.start = 0;
+                self.end = count;
+                Ok(())
+            }
+            Err(_) => {
+                self.start = 0;
+                self.end = 0;
+                self.faults = self.faults.saturating_add(1);
+                Err(Failed)
+            }
+        }
+    }
+}
+
+impl<R: Read + Drop> Source for ReaderSource<R> {
+    ghost left = { λ source. prepend_known source.held source.rest };
+
+    ghost faults = { λ source. source.faults };
+
+    fn read(&mut self, buf: &mut [u8]) -> Result<usize, Failed>
+        ensures bound { IfOk result (λ count. count ≤ length buf.old) }
+        ensures bytes { ReadConsumes (prepend_known self.old.held self.old.rest) (prepend_known self.new.held self.new.rest) result buf.new }
+        ensures rest { IfOk result (λ count. drop count buf.new ≡ drop count buf.old) }
+        ensures cause { HasCause (λ source. source.faults) self.old self.new result }
+        ensures faults { self.new.faults ≡ (if is_ok result then self.old.faults else counted self.old.faults) }
+        ensures held { 0 < length self.old.held → IfOk result (λ count. self.old.held ≡ take count buf.new ++ self.new.held) }
+        ensures count { 0 < length self.old.held → result ≡ Ok (min (length buf.old) (length self.old.held)) }
+    {
+        if !self.held().is_empty() || buf.is_empty() {
+            return Ok(self.give(buf));
+        }
+        self.refill()?;
+        Ok(self.give(buf))
+    }
+}
+
+/// Standard output or standard error as a sink, which tells nothing of its bytes.
+#[derive(Drop)]
+pub struct StdSink {
+    stream: Stream,
+    faults: u64,
+}
+
+#[derive(Drop)]
+enum Stream {
+    Output(Stdout),
+    Error(Stderr),
+}
+
+impl Model for StdSink {
+    ghost Value = { Faults };
+
+    ghost view = { λ sink. record { faults = sink.faults } };
+}
+
+impl StdSink {
+    /// Standard output.
+    pub fn output(stream: Stdout) -> Self
+        ensures { result.faults ≡ 0 }
+    {
+        StdSink {
+            stream: Stream::Output(stream),
+            faults: 0,
+        }
+    }
+
+    /// Standard error.
+    pub fn error(stream: Stderr) -> Self
+        ensures { result.faults ≡ 0 }
+    {
+        StdSink {
+            stream: Stream::Error(stream),
+            faults: 0,
+        }
+    }
+}
+
+impl Sink for StdSink {
+    ghost written = { λ sink. None };
+
+    ghost faults = { λ sink. sink.faults };
+
+    ghost wants = { λ sink. 0 };
+
+    fn write(&mut self, piece: &[u8]) -> Result<usize, SinkError>
+        ensures bound { IfOk result (λ count. count ≤ length piece.now) }
+        ensures progress { IfOk result (λ count. 0 < length piece.now → 0 < count) }
+        ensures bytes { WriteAppends None None result piece.now }
+        ensures cause { HasSinkCause (λ sink. sink.faults) (λ sink. 0) self.old self.new result }
+        ensures error { IfErr result (λ error. error ≡ SinkError.Failed) }
+        ensures faults { self.new.faults ≡ (if is_ok result then self.old.faults else counted self.old.faults) }
+    {
+        match &mut self.stream {
+            Stream::Output(stream) => write_counted(stream, piece, &mut self.faults),
+            Stream::Error(stream) => write_counted(stream, piece, &mut self.faults),
+        }
+    }
+}
+
+// One write, which has failed too where it took nothing of a nonempty piece. A failure is counted.
+fn write_counted<W: Write>(
+    writer: &mut W,
+    piece: &[u8],
+    faults: &mut u64,
+) -> Result<usize, SinkError>
+    ensures bound { IfOk result (λ count. count ≤ length piece.now) }
+    ensures progress { IfOk result (λ count. 0 < length piece.now → 0 < count) }
+    ensures bytes { WriteAppends (W.contents writer.old) (W.contents writer.new) result piece.now }
+    ensures error { IfErr result (λ error. error ≡ SinkError.Failed) }
+    ensures faults { faults.new ≡ (if is_ok result then faults.old else counted faults.old) }
+    ensures later { faults.old ≤ faults.new }
+{
+    match writer.write(piece) {
+        Ok(count) if count > 0 || piece.is_empty() => Ok(count),
+        _ => {
+            *faults = faults.saturating_add(1);
+            Err(SinkError::Failed)
+        }
+    }
+}
