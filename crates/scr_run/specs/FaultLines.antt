@@ -4,6 +4,7 @@ use Rattle.scr_pcap.specs.declared.error.CaptureError.{CaptureError}
 use Rattle.scr_pcap.specs.declared.error.CaptureError.TheVariants as capture
 use Rattle.scr_run.specs.declared.status.Status.{Status}
 use Rattle.scr_run.specs.declared.status.Status.TheVariants.{Done, Words, Capture, ReadFault, WriteFault, OutOfMemory, TooMany}
+use Rattle.scr_run.specs.declared.status.WordFault.{WordFault}
 use Rattle.scr_run.specs.declared.status.WordCause.{WordCause}
 use Rattle.scr_run.specs.declared.status.WordCause.TheVariants.{NotBuilt}
 
@@ -19,6 +20,16 @@ code_of (TooMany limit) = 6
 abbrev pub cause_name : WordCause → List ℕ
 cause_name NotBuilt = codes "NotBuilt"
 
+abbrev pub word_line : WordFault → List ℕ
+word_line fault = codes "scr: word " ++ decimal fault.word ++ codes ": " ++ cause_name fault.cause ++ codes "\n"
+
+abbrev pub short_record_line : ℕ → List ℕ
+short_record_line number = codes "scr: record " ++ decimal number ++ codes ": ShortRecord\n"
+
+abbrev pub long_record_line : ℕ → ℕ → List ℕ
+long_record_line number length =
+    codes "scr: record " ++ (decimal number ++ (codes ": LongRecord " ++ (decimal length ++ codes "\n")))
+
 abbrev pub too_many_line : ℕ → List ℕ
 too_many_line limit = codes "scr: more than " ++ decimal limit ++ codes " records\n"
 
@@ -28,15 +39,15 @@ capture_line capture.ShortHeader = codes "scr: header: ShortHeader\n"
 capture_line capture.Magic = codes "scr: header: Magic\n"
 capture_line capture.Version = codes "scr: header: Version\n"
 capture_line capture.LinkType = codes "scr: header: LinkType\n"
-capture_line (capture.ShortRecord number) = codes "scr: record " ++ decimal number ++ codes ": ShortRecord\n"
-capture_line (capture.LongRecord number length) = codes "scr: record " ++ decimal number ++ codes ": LongRecord " ++ decimal length ++ codes "\n"
+capture_line (capture.ShortRecord number) = short_record_line number
+capture_line (capture.LongRecord number length) = long_record_line number length
 capture_line (capture.TooMany limit) = too_many_line limit
 capture_line capture.ReadFault = codes "scr: read fault\n"
 
 -- the line of a status; a run that is done writes none
 abbrev pub fault_line : Status → List ℕ
 fault_line Done = []
-fault_line (Words fault) = codes "scr: word " ++ decimal fault.word ++ codes ": " ++ cause_name fault.cause ++ codes "\n"
+fault_line (Words fault) = word_line fault
 fault_line (Capture error) = capture_line error
 fault_line ReadFault = codes "scr: read fault\n"
 fault_line WriteFault = codes "scr: write fault\n"

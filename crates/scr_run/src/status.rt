@@ -1,6 +1,7 @@
 ghost use Rattle.std.specs.Prelude.{◌≡◌};
 ghost use Rattle.scr_run.specs.FaultLines.{code_of};
 
+use scr_base::{OutOfMemory, SinkError};
 use scr_pcap::CaptureError;
 
 /// How a run ended.
@@ -10,9 +11,9 @@ pub enum Status {
     Done,
     /// The words of the command line are refused.
     Words(WordFault),
-    /// The capture is malformed: the first fault.
+    /// The capture is malformed: its first fault.
     Capture(CaptureError),
-    /// Reading failed.
+    /// Reading the capture failed.
     ReadFault,
     /// Writing the report failed.
     WriteFault,
@@ -49,6 +50,46 @@ impl Status {
             Status::WriteFault => 4,
             Status::OutOfMemory => 5,
             Status::TooMany { .. } => 6,
+        }
+    }
+}
+
+impl From<CaptureError> for Status {
+    ghost use Rattle.std.specs.Prelude.{◌≡◌};
+    ghost use Rattle.scr_run.specs.Answers.{status_of};
+
+    ghost from_gives = { λ error status. status ≡ status_of error };
+
+    fn from(error: CaptureError) -> Self {
+        match error {
+            CaptureError::ReadFault => Status::ReadFault,
+            CaptureError::TooMany { limit } => Status::TooMany { limit },
+            malformed => Status::Capture(malformed),
+        }
+    }
+}
+
+impl From<OutOfMemory> for Status {
+    ghost use Rattle.std.specs.Prelude.{◌≡◌};
+    ghost use Rattle.scr_run.specs.declared.status.Status.TheVariants as status;
+
+    ghost from_gives = { λ _ made. made ≡ status.OutOfMemory };
+
+    fn from(_: OutOfMemory) -> Self {
+        Status::OutOfMemory
+    }
+}
+
+impl From<SinkError> for Status {
+    ghost use Rattle.std.specs.Prelude.{◌≡◌};
+    ghost use Rattle.scr_run.specs.Causes.{status_of_sink};
+
+    ghost from_gives = { λ error status. status ≡ status_of_sink error };
+
+    fn from(error: SinkError) -> Self {
+        match error {
+            SinkError::Failed => Status::WriteFault,
+            SinkError::OutOfMemory => Status::OutOfMemory,
         }
     }
 }

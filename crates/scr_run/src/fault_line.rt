@@ -1,0 +1,119 @@
+ghost use Rattle.std.specs.Prelude.{◌≡◌};
+ghost use Rattle.scr_base.specs.Causes.{HasSinkCause};
+ghost use Rattle.scr_base.specs.Streams.{WritesText, BatchesText};
+ghost use Rattle.scr_run.specs.FaultLines.{word_line, short_record_line, long_record_line, capture_line, too_many_line, fault_line};
+
+use crate::status::{Status, WordCause, WordFault};
+use scr_base::{Batch, Piece, Sink, SinkError};
+use scr_pcap::CaptureError;
+
+/// Writes the line of a status; one that is done has none. At `Err` a front of it is written.
+pub fn write_fault_line<E: Sink>(err: &mut E, status: &Status) -> Result<(), SinkError>
+    ensures text { WritesText (E.written err.old) (E.written err.new) result (fault_line status.now) }
+    ensures cause { HasSinkCause E.faults E.wants err.old err.new result }
+{
+    let mut batch = Batch::new();
+    put_fault_line(&mut batch, err, status)?;
+    batch.finish(err)
+}
+
+fn put_fault_line<E: Sink>(batch: &mut Batch, err: &mut E, status: &Status) -> Result<(), SinkError>
+    ensures text { BatchesText (E.written err.old) (E.written err.new) batch.old batch.new result (fault_line status.now) }
+    ensures cause { HasSinkCause E.faults E.wants err.old err.new result }
+{
+    match status {
+        Status::Done => batch.put(err, b""),
+        Status::Words(fault) => put_word_line(batch, err, fault),
+        Status::Capture(error) => put_capture_line(batch, err, error),
+        Status::ReadFault => batch.put(err, b"scr: read fault\n"),
+        Status::WriteFault => batch.put(err, b"scr: write fault\n"),
+        Status::OutOfMemory => batch.put(err, b"scr: out of memory\n"),
+        Status::TooMany { limit } => put_too_many_line(batch, err, *limit),
+    }
+}
+
+fn put_capture_line<E: Sink>(batch: &mut Batch, err: &mut E, error: &CaptureError) -> Result<(), SinkError>
+    ensures text { BatchesText (E.written err.old) (E.written err.new) batch.old batch.new result (capture_line error.now) }
+    ensures cause { HasSinkCause E.faults E.wants err.old err.new result }
+{
+    match error {
+        CaptureError::ShortHeader => batch.put(err, b"scr: header: ShortHeader\n"),
+        CaptureError::Magic => batch.put(err, b"scr: header: Magic\n"),
+        CaptureError::Version => batch.put(err, b"scr: header: Version\n"),
+        CaptureError::LinkType => batch.put(err, b"scr: header: LinkType\n"),
+        CaptureError::ShortRecord { number } => put_short_record(batch, err, *number),
+        CaptureError::LongRecord { number, length } => {
+            put_long_record(batch, err, *number, *length)
+        }
+        CaptureError::TooMany { limit } => put_too_many_line(batch, err, *limit),
+        CaptureError::ReadFault => batch.put(err, b"scr: read fault\n"),
+    }
+}
+
+fn put_word_line<E: Sink>(batch: &mut Batch, err: &mut E, fault: &WordFault) -> Result<(), SinkError>
+    ensures text { BatchesText (E.written err.old) (E.written err.new) batch.old batch.new result (word_line fault.now) }
+    ensures cause { HasSinkCause E.faults E.wants err.old err.new result }
+{
+    let cause: &[u8] = match fault.cause {
+        WordCause::NotBuilt => b"NotBuilt",
+    };
+    batch.put_pieces(
+        err,
+        &[
+            Piece::Text(b"scr: word "),
+            Piece::Number(u64::from(fault.word)),
+            Piece::Text(b": "),
+            Piece::Text(cause),
+            Piece::Text(b"\n"),
+        ],
+    )
+}
+
+fn put_short_record<E: Sink>(batch: &mut Batch, err: &mut E, number: u32) -> Result<(), SinkError>
+    ensures text { BatchesText (E.written err.old) (E.written err.new) batch.old batch.new result (short_record_line number) }
+    ensures cause { HasSinkCause E.faults E.wants err.old err.new result }
+{
+    batch.put_pieces(
+        err,
+        &[
+            Piece::Text(b"scr: record "),
+            Piece::Number(u64::from(number)),
+            Piece::Text(b": ShortRecord\n"),
+        ],
+    )
+}
+
+fn put_long_record<E: Sink>(
+    batch: &mut Batch,
+    err: &mut E,
+    number: u32,
+    length: u32,
+) -> Result<(), SinkError>
+    ensures text { BatchesText (E.written err.old) (E.written err.new) batch.old batch.new result (long_record_line number length) }
+    ensures cause { HasSinkCause E.faults E.wants err.old err.new result }
+{
+    batch.put_pieces(
+        err,
+        &[
+            Piece::Text(b"scr: record "),
+            Piece::Number(u64::from(number)),
+            Piece::Text(b": LongRecord "),
+            Piece::Number(u64::from(length)),
+            Piece::Text(b"\n"),
+        ],
+    )
+}
+
+fn put_too_many_line<E: Sink>(batch: &mut Batch, err: &mut E, limit: u32) -> Result<(), SinkError>
+    ensures text { BatchesText (E.written err.old) (E.written err.new) batch.old batch.new result (too_many_line limit) }
+    ensures cause { HasSinkCause E.faults E.wants err.old err.new result }
+{
+    batch.put_pieces(
+        err,
+        &[
+            Piece::Text(b"scr: more than "),
+            Piece::Number(u64::from(limit)),
+            Piece::Text(b" records\n"),
+        ],
+    )
+}
