@@ -4,3 +4,5 @@ pub mod Front
 pub mod Faults
 pub mod Told
 pub mod OneReading
+pub mod Joining
+pub mod SomeReading

@@ -76,5 +76,61 @@ same_records format taken (r ∷ records) (r' ∷ records') bytes rest rest' (fi
       (subst (λ (b : List ℕ). BeginWith format records' b rest') (sym same.1) spelled') (omega arith) (subst (λ (n : ℕ). Stops format n rest') (omega arith) stops') in
     (ap (λ (head : Record). head ∷ records) same.0 ∙ ap (λ (tail : List Record). r' ∷ tail) tails.0, tails.1)
 
-ok_format : {format format' : Format} {result : Result Format CaptureError} → result ≡ Ok format → result ≡ Ok format' → format ≡ format'
-ok_format one other = let e : Ok format ≡ Ok format' = sym one ∙ other in cc
+same_format : (bytes : List ℕ) (format format' : Format) → header_of bytes ≡ Ok format → header_of bytes ≡ Ok format' → format ≡ format'
+same_format bytes format format' told told' = let same = sym told ∙ told' in cc
+
+NoRecord-nil : (format : Format) → NoRecord format []
+NoRecord-nil format = NoRecord-from_short format [] (omega arith)
+
+-- a capture's records stop at its end
+same_captures : (bytes : List ℕ) (records records' : List Record) → IsCapture bytes records → IsCapture bytes records' → records ≡ records'
+same_captures bytes records records' one other =
+    let format = same_format bytes other.format one.format other.header one.header in
+    let spelled = subst (λ (f : Format). BeginWith f records' (drop 24 bytes) []) format other.spelled in
+    let few = one.few in
+    let few' = other.few in
+    let none = NoRecord-nil one.format in
+    (same_records one.format 0 records records' (drop 24 bytes) [] [] one.spelled (omega arith) (inr none) spelled (omega arith) (inr none)).0
+
+same_cuts : (bytes : List ℕ) (fault fault' : CaptureError) → IsCutShort bytes fault → IsCutShort bytes fault' → fault ≡ fault'
+same_cuts bytes fault fault' one other =
+    let format = same_format bytes other.format one.format other.header one.header in
+    let spelled = subst (λ (f : Format). BeginWith f other.records (drop 24 bytes) other.rest) format other.spelled in
+    let faulty = subst (λ (f : Format). IsFaultyRest f (length other.records) other.rest fault') format other.faulty in
+    let few = one.few in
+    let few' = other.few in
+    let stops = let at_none : 0 + length one.records ≡ length one.records = omega arith in subst (λ (n : ℕ). Stops one.format n one.rest) (sym at_none) one.faulty.greatest in
+    let stops' = let at_none : 0 + length other.records ≡ length other.records = omega arith in subst (λ (n : ℕ). Stops one.format n other.rest) (sym at_none) faulty.greatest in
+    let same = same_records one.format 0 one.records other.records (drop 24 bytes) one.rest other.rest one.spelled (omega arith) stops spelled (omega arith) stops' in
+    one.faulty.first_test ∙ ap (λ (rs : List Record). rest_fault one.format (length rs) one.rest) same.0
+    ∙ ap (λ (rest : List ℕ). rest_fault one.format (length other.records) rest) same.1 ∙ sym faulty.first_test
+
+-- a capture isn't cut short
+not_both : {A : Type 0} (bytes : List ℕ) (records : List Record) (fault : CaptureError) → IsCapture bytes records → IsCutShort bytes fault → A
+not_both bytes records fault whole cut =
+    let format = same_format bytes cut.format whole.format cut.header whole.header in
+    let spelled = subst (λ (f : Format). BeginWith f cut.records (drop 24 bytes) cut.rest) format cut.spelled in
+    let faulty = subst (λ (f : Format). IsFaultyRest f (length cut.records) cut.rest fault) format cut.faulty in
+    let few = whole.few in
+    let few' = cut.few in
+    let stops = let at_none : 0 + length cut.records ≡ length cut.records = omega arith in subst (λ (n : ℕ). Stops whole.format n cut.rest) (sym at_none) faulty.greatest in
+    let same = same_records whole.format 0 records cut.records (drop 24 bytes) [] cut.rest whole.spelled (omega arith) (inr (NoRecord-nil whole.format)) spelled (omega arith) stops in
+    absurd (cut.faulty.more (sym same.1))
+
+-- a header isn't both valid and not
+valid_or_not : {A : Type 0} (bytes : List ℕ) (format : Format) (fault : CaptureError) → header_of bytes ≡ Ok format → header_of bytes ≡ Err fault → A
+valid_or_not bytes format fault valid invalid = let both : Ok format ≡ Err fault = sym valid ∙ invalid in absurd (cc)
+
+same_refusals : (bytes : List ℕ) (fault fault' : CaptureError) → header_of bytes ≡ Err fault → header_of bytes ≡ Err fault' → fault ≡ fault'
+same_refusals bytes fault fault' told told' = let same = sym told ∙ told' in cc
+
+pub same_readings : (bytes : List ℕ) (one other : Result (List Record) CaptureError) → IsReading bytes one → IsReading bytes other → one ≡ other
+same_readings bytes (Ok records) (Ok records') one other = ap (λ (rs : List Record). Ok rs) (same_captures bytes records records' one other)
+same_readings bytes (Ok records) (Err fault) one (inl invalid) = valid_or_not bytes one.format fault one.header invalid
+same_readings bytes (Ok records) (Err fault) one (inr cut) = not_both bytes records fault one cut
+same_readings bytes (Err fault) (Ok records) (inl invalid) other = valid_or_not bytes other.format fault other.header invalid
+same_readings bytes (Err fault) (Ok records) (inr cut) other = not_both bytes records fault other cut
+same_readings bytes (Err fault) (Err fault') (inl invalid) (inl invalid') = ap (λ (e : CaptureError). Err e) (same_refusals bytes fault fault' invalid invalid')
+same_readings bytes (Err fault) (Err fault') (inl invalid) (inr cut') = valid_or_not bytes cut'.format fault cut'.header invalid
+same_readings bytes (Err fault) (Err fault') (inr cut) (inl invalid') = valid_or_not bytes cut.format fault' cut.header invalid'
+same_readings bytes (Err fault) (Err fault') (inr cut) (inr cut') = ap (λ (e : CaptureError). Err e) (same_cuts bytes fault fault' cut cut')

@@ -1,7 +1,7 @@
 -- The records of a capture (libpcap file format, version 2.4): a header of 16 bytes with seconds at 0, a fraction of
 -- a second at 4, the captured length at 8 and the original length, which is not looked at, at 12; then as many bytes
 -- as the captured length says, which is at most 262,144.
-use Rattle.std.specs.Prelude.{◌≡◌, ◌≢◌, ◌⊎◌, ℕ, ◌+◌, ◌*◌, ◌/◌, ◌<◌, ◌≤◌, List, [], ◌∷◌, ◌++◌, length, drop, Option, ◌==◌, nat_lt, if◌then◌else◌}
+use Rattle.std.specs.Prelude.{◌≡◌, ◌≢◌, ◌⊎◌, ℕ, ◌+◌, ◌*◌, ◌/◌, ◌<◌, ◌≤◌, List, [], ◌∷◌, ◌++◌, length, drop, Option, Some, None, ⊤, ◌==◌, nat_lt, if◌then◌else◌}
 use Rattle.std.specs.Io.KnownBytes.{Consumes}
 use Rattle.scr_pcap.specs.declared.error.CaptureError.{CaptureError}
 use Rattle.scr_pcap.specs.declared.error.CaptureError.TheVariants.{ShortHeader, Magic, Version, LinkType, ShortRecord, LongRecord, TooMany, ReadFault}
@@ -79,3 +79,9 @@ IsRecordFault taken ReadFault = Unit {0}
 -- a source, by the bytes that it had left before a call and after it, gave the bytes of this record
 abbrev pub TakesRecord : Format → Option (List ℕ) → Option (List ℕ) → Record → Type 0
 TakesRecord format old new r = (bytes : List ℕ) × IsRecord format bytes r × Consumes old new bytes
+
+-- a source gave these records, one after another
+abbrev pub TakesRecords : Format → Option (List ℕ) → Option (List ℕ) → List Record → Type 0
+TakesRecords format None new records = ⊤
+TakesRecords format (Some old) None records = ⊥
+TakesRecords format (Some old) (Some new) records = BeginWith format records old new

@@ -3,7 +3,13 @@ ghost use Rattle.scr_pcap.specs.Records.{Record};
 ghost use Rattle.scr_pcap.specs.Reading.{IsReading};
 ghost use Rattle.scr_pcap.specs.declared.error.CaptureError.{CaptureError};
 
-/// A capture has one reading: its records, or its first fault.
+/// Any bytes have a reading: records, or a fault.
+pub fn some_reading()
+    ensures { (bytes : List ℕ) → (reading : Result (List Record) CaptureError) × IsReading bytes reading }
+{
+}
+
+/// Bytes have one reading: their records, or their first fault.
 pub fn one_reading()
     ensures { (bytes : List ℕ) (one other : Result (List Record) CaptureError) → IsReading bytes one → IsReading bytes other → one ≡ other }
 {

@@ -12,5 +12,5 @@ mod reader;
 pub use error::CaptureError;
 pub use format::{Format, Fraction, Order};
 pub use frame::FrameBuf;
-pub use laws::one_reading;
+pub use laws::{one_reading, some_reading};
 pub use reader::{Progress, Reader, RecordInfo};
