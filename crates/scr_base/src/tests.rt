@@ -1,6 +1,7 @@
 use crate::{
-    Batch, Failed, MemSink, MemSource, NumberError, OutOfMemory, ReaderSource, Sink, SinkError,
-    Source, StdSink, StdSource, SureSink, SureSource, Word, put_all, put_decimal, read_number,
+    Batch, Failed, MemSink, MemSource, NumberError, OutOfMemory, Piece, ReaderSource, Sink,
+    SinkError, Source, StdSink, StdSource, SureSink, SureSource, Word, put_all, put_decimal,
+    read_number,
 };
 use std::io;
 use std::io::Read;
@@ -68,9 +69,10 @@ fn puts_decimals(rt: HostRuntime) -> Result<(), OutOfMemory> {
 
 // Three lines of a number and a word, which a batch writes in three calls.
 fn put_lines<O: Sink>(batch: &mut Batch, sink: &mut O) -> Result<(), SinkError> {
-    for number in [1, 22, 333] {
-        batch.put_decimal(sink, number)?;
-        batch.put(sink, b" word\n")?;
+    batch.put_decimal(sink, 1)?;
+    batch.put(sink, b" word\n")?;
+    for number in [22, 333] {
+        batch.put_pieces(sink, &[Piece::Number(number), Piece::Text(b" word\n")])?;
     }
     batch.finish(sink)
 }

@@ -1,13 +1,14 @@
-// A library with one function.
+//! Captures in the libpcap file format, read one record at a time.
 #![tactic(auto)]
 
-ghost use Rattle.std.specs.Prelude.{◌≡◌};
-ghost use Rattle.scr_pcap.specs.Echo.{echo_of};
+mod error;
+mod format;
+mod frame;
+mod laws;
+mod reader;
 
-// The `ensures` clause is the contract: what `echo` returns is `echo_of` of its argument, a definition
-// in `specs/Echo.antt`, which a caller's clause can cite too.
-pub fn echo(x: usize) -> usize
-    ensures { result ≡ echo_of x }
-{
-    x
-}
+pub use error::CaptureError;
+pub use format::{Format, Fraction, Order};
+pub use frame::FrameBuf;
+pub use laws::one_reading;
+pub use reader::{Progress, Reader, RecordInfo};

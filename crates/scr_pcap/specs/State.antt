@@ -1,0 +1,24 @@
+-- What a contract sees of a reader.
+use Rattle.std.specs.Prelude.{◌≡◌, ℕ, Option, Some, None, Result, Ok, Err}
+use Rattle.scr_pcap.specs.declared.error.CaptureError.{CaptureError}
+use Rattle.scr_pcap.specs.declared.format.Format.{Format}
+use Rattle.scr_pcap.specs.declared.reader.Progress.{Progress}
+use Rattle.scr_pcap.specs.declared.reader.Progress.TheVariants.{Reading, Ended, Refused}
+use Rattle.scr_pcap.specs.declared.reader.RecordInfo.{RecordInfo}
+
+-- the format of its capture, how many records it took, and how far it has come
+pub record ReaderState : Type 0 where
+  pub format : Format
+  pub taken : ℕ
+  pub progress : Progress
+
+-- it has taken the header alone
+pub record IsFresh (reader : ReaderState) : Type 0 where
+  pub none_taken : reader.taken ≡ 0
+  pub reading : reader.progress ≡ Reading
+
+-- what a reader that doesn't read on answers
+abbrev pub answer_of : Progress → Option (Result (Option RecordInfo) CaptureError)
+answer_of Reading = None
+answer_of Ended = Some (Ok None)
+answer_of (Refused fault) = Some (Err fault)

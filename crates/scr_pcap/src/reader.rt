@@ -1,0 +1,104 @@
+ghost use Rattle.std.specs.Prelude.{◌≡◌, ◌≤◌, ◌<◌, ◌+◌, ℕ, Bool, true, length, drop, Option, Some, None, Ok, Err, IfOk, IfErr, IfSome, OnOk, OnSome};
+ghost use Rattle.std.specs.Io.KnownBytes.{IsAtEnd};
+ghost use Rattle.scr_base.specs.Causes.{Rose};
+ghost use Rattle.scr_pcap.specs.Header.{header_of, IsHeaderFault};
+ghost use Rattle.scr_pcap.specs.Records.{Record, RECORDS, TakesRecord, IsFaultyRest, IsRecordFault};
+ghost use Rattle.scr_pcap.specs.State.{ReaderState, IsFresh, answer_of};
+
+use crate::error::CaptureError;
+use crate::format::{Format, Fraction, Order};
+use crate::frame::FrameBuf;
+use scr_base::Source;
+use std::marker::Model;
+
+/// The most records that are taken of a capture.
+pub const LIMIT: u32 = 1_000_000;
+
+/// How far a reader has come.
+#[derive(Clone, Copy, Debug, PartialEq, Eq)]
+pub enum Progress {
+    /// More may follow.
+    Reading,
+    /// The end was met behind a whole record, or behind the header.
+    Ended,
+    /// This error was answered, and is answered again.
+    Refused(CaptureError),
+}
+
+/// What stands in front of a record's bytes.
+#[derive(Clone, Copy, Debug, PartialEq, Eq)]
+pub struct RecordInfo {
+    /// The record's number, from 1.
+    pub number: u32,
+    /// Its time in microseconds.
+    pub time: u64,
+    /// Its captured length in bytes.
+    pub length: u32,
+}
+
+/// Reads the records of a capture, one at a time.
+#[derive(Debug, Drop)]
+pub struct Reader {
+    format: Format,
+    taken: u32,
+    progress: Progress,
+}
+
+impl Model for Reader {
+    ghost use Rattle.std.specs.Prelude.{◌≤◌};
+    ghost use Rattle.scr_pcap.specs.State.{ReaderState};
+
+    ghost Value = { ReaderState };
+
+    ghost view = { λ reader. record { format = reader.format; taken = reader.taken; progress = reader.progress } };
+
+    ghost invariant = { λ reader. reader.taken ≤ 1000000 };
+}
+
+impl Reader {
+    /// Takes the header of a capture.
+    pub fn begin<S: Source>(source: &mut S) -> Result<Self, CaptureError>
+        ensures fresh { IfOk result IsFresh }
+        ensures header { IfSome (S.left source.old) (λ bytes. IfOk result (λ reader.
+            (header_of bytes ≡ Ok reader.format) × (S.left source.new ≡ Some (drop 24 bytes)))) }
+        ensures refused { IfSome (S.left source.old) (λ bytes. IfErr result (λ error.
+            (error ≡ CaptureError.ReadFault → ⊥) → header_of bytes ≡ Err error)) }
+        ensures named { IfErr result IsHeaderFault }
+        ensures later { S.faults source.old ≤ S.faults source.new }
+        ensures fault { result ≡ Err CaptureError.ReadFault → Rose (S.faults source.old) (S.faults source.new) }
+    {
+        Err(CaptureError::ReadFault)
+    }
+
+    /// Takes the next record, whose bytes `frame` then holds; `None` at the end. An error is answered again by each
+    /// later call, which reads nothing; `frame` then holds some bytes.
+    pub fn next<S: Source>(
+        &mut self,
+        source: &mut S,
+        frame: &mut FrameBuf,
+    ) -> Result<Option<RecordInfo>, CaptureError>
+        ensures format { self.new.format ≡ self.old.format }
+        ensures within { self.new.taken ≤ RECORDS }
+
+        // One that has ended or refused answers so again, and reads nothing.
+        ensures again { IfSome (answer_of self.old.progress) (λ answer.
+            (result ≡ answer) × (self.new ≡ self.old) × (source.new ≡ source.old)) }
+
+        ensures record { IfOk result (λ next. IfSome next (λ info.
+            (self.old.taken < RECORDS) × (self.new ≡ record self.old { taken = self.old.taken + 1 })
+            × (info.number ≡ self.old.taken + 1) × (info.length ≡ length frame.new)
+            × TakesRecord self.old.format (S.left source.old) (S.left source.new) (record { time = info.time; content = frame.new }))) }
+        ensures end { result ≡ Ok None → (self.new ≡ record self.old { progress = Progress.Ended })
+            × IsAtEnd (S.left source.old) × IsAtEnd (S.left source.new) }
+        ensures refused { IfErr result (λ error. self.new ≡ record self.old { progress = Progress.Refused error }) }
+        ensures faulty { IfErr result (λ error. (error ≡ CaptureError.ReadFault → ⊥) → self.old.progress ≡ Progress.Reading
+            → IfSome (S.left source.old) (λ bytes. IsFaultyRest self.old.format self.old.taken bytes error)) }
+        ensures named { self.old.progress ≡ Progress.Reading → IfErr result (IsRecordFault self.old.taken) }
+        ensures later { S.faults source.old ≤ S.faults source.new }
+        ensures fault { self.old.progress ≡ Progress.Reading → result ≡ Err CaptureError.ReadFault
+            → Rose (S.faults source.old) (S.faults source.new) }
+    {
+        self.progress = Progress::Refused(CaptureError::ReadFault);
+        Err(CaptureError::ReadFault)
+    }
+}
