@@ -1,4 +1,4 @@
-ghost use Rattle.std.specs.Prelude.{◌≡◌, ◌+◌, ◌≤◌, ◌++◌, ℕ, List, [], length, take, decimal, OnOk};
+ghost use Rattle.std.specs.Prelude.{◌≡◌, ◌+◌, ◌≤◌, ◌++◌, ℕ, List, [], length, take, decimal, OnErr, OnOk};
 ghost use Rattle.std.specs.List.{flat_map};
 ghost use Rattle.scr_base.specs.Causes.{HasSinkCause};
 ghost use Rattle.scr_base.specs.Streams.{WritesText, BatchesText};
@@ -107,10 +107,11 @@ impl Batch {
         }
     }
 
-    /// Writes what is held. At `Err` the sink has gained a front of it.
+    /// Writes what is held. At `Err` the sink has gained a front of it, and all of it is still held.
     pub fn finish<O: Sink>(&mut self, out: &mut O) -> Result<(), SinkError>
         ensures text { WritesText (O.written out.old) (O.written out.new) result self.old }
         ensures empty { OnOk result (self.new ≡ []) }
+        ensures kept { OnErr result (self.new ≡ self.old) }
         ensures cause { HasSinkCause O.faults O.wants out.old out.new result }
     {
         put_all(out, &self.bytes[..self.filled])?;

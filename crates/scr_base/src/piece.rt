@@ -1,6 +1,8 @@
-/// A piece of a line: bytes as they stand, or a number in decimal digits.
+/// A piece of a line.
 #[derive(Clone, Copy)]
 pub enum Piece<'a> {
+    /// Bytes as they stand.
     Text(&'a [u8]),
+    /// A number, in decimal digits without zeros in front.
     Number(u64),
 }

@@ -1,6 +1,7 @@
 use crate::{
-    Batch, Failed, MemSink, MemSource, NumberError, OutOfMemory, ReaderSource, Sink, SinkError,
-    Source, StdSink, StdSource, SureSink, SureSource, Word, put_all, put_decimal, read_number,
+    Batch, Failed, MemSink, MemSource, NumberError, OutOfMemory, Piece, ReaderSource, Sink,
+    SinkError, Source, StdSink, StdSource, SureSink, SureSource, Word, put_all, put_decimal,
+    read_number,
 };
 use std::io;
 use std::io::Read;
@@ -13,7 +14,10 @@ fn reads_numbers(rt: HostRuntime) {
         (b"", Err(NumberError::Digit)),
         (b"+7", Err(NumberError::Digit)),
         (b"7a", Err(NumberError::Digit)),
-        (b"000000000000000000000000000000000000000a", Err(NumberError::Digit)),
+        (
+            b"000000000000000000000000000000000000000a",
+            Err(NumberError::Digit),
+        ),
         (b"0000000000000000000000000000000000000007", Ok(7)),
         (b"2", Err(NumberError::Range)),
         (b"3", Ok(3)),
@@ -24,8 +28,14 @@ fn reads_numbers(rt: HostRuntime) {
     for (text, want) in cases {
         assert_eq!(rt; read_number(text, 3, u64::MAX - 1), want, "at {text:?}");
     }
-    assert_eq!(rt; read_number(b"18446744073709551615", 0, u64::MAX), Ok(u64::MAX));
-    assert_eq!(rt; read_number(b"18446744073709551616", 0, u64::MAX), Err(NumberError::Range));
+    assert_eq!(rt;
+        read_number(b"18446744073709551615", 0, u64::MAX),
+        Ok(u64::MAX)
+    );
+    assert_eq!(rt;
+        read_number(b"18446744073709551616", 0, u64::MAX),
+        Err(NumberError::Range)
+    );
 }
 
 #[test]
@@ -34,7 +44,11 @@ fn puts_a_front_up_to_the_failure(rt: HostRuntime) -> Result<(), OutOfMemory> {
     for call in 1..=5 {
         let mut sink = MemSink::new(rt.alloc(), 10, vec![in rt.alloc(); call]?);
         let fails = call < 5;
-        let want = if fails { Err(SinkError::Failed) } else { Ok(()) };
+        let want = if fails {
+            Err(SinkError::Failed)
+        } else {
+            Ok(())
+        };
         assert_eq!(rt; put_all(&mut sink, text), want, "at {call}");
         let stands = if fails { 10 * (call as usize - 1) } else { 35 };
         assert_eq!(rt; sink.written().len(), stands, "at {call}");
@@ -55,9 +69,10 @@ fn puts_decimals(rt: HostRuntime) -> Result<(), OutOfMemory> {
 
 // Three lines of a number and a word, which a batch writes in three calls.
 fn put_lines<O: Sink>(batch: &mut Batch, sink: &mut O) -> Result<(), SinkError> {
-    for number in [1, 22, 333] {
-        batch.put_decimal(sink, number)?;
-        batch.put(sink, b" word\n")?;
+    batch.put_decimal(sink, 1)?;
+    batch.put(sink, b" word\n")?;
+    for number in [22, 333] {
+        batch.put_pieces(sink, &[Piece::Number(number), Piece::Text(b" word\n")])?;
     }
     batch.finish(sink)
 }
@@ -68,7 +83,11 @@ fn a_batch_writes_a_front_up_to_the_failure(rt: HostRuntime) -> Result<(), OutOf
     for call in 1..=4 {
         let mut sink = MemSink::new(rt.alloc(), 10, vec![in rt.alloc(); call]?);
         let fails = call < 4;
-        let want = if fails { Err(SinkError::Failed) } else { Ok(()) };
+        let want = if fails {
+            Err(SinkError::Failed)
+        } else {
+            Ok(())
+        };
         assert_eq!(rt; put_lines(&mut Batch::new(), &mut sink), want, "at {call}");
         let stands = if fails { 10 * (call as usize - 1) } else { 24 };
         assert_eq!(rt; sink.written().len(), stands, "at {call}");
