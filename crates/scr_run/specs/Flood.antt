@@ -1,5 +1,5 @@
 -- The flood counter: it counts the packets of each source, and drops those of a source past its threshold.
-use Rattle.std.specs.Prelude.{ℕ, ◌+◌, ◌-◌, ◌*◌, ◌/◌, ◌%◌, ◌^◌, min, Bool, ◌&&◌, ◌||◌, not, List, unwrap_or, ◌==◌, nat_lt, nat_le, if◌then◌else◌}
+use Rattle.std.specs.Prelude.{ℕ, ◌+◌, ◌-◌, ◌*◌, ◌/◌, ◌%◌, ◌^◌, min, Bool, ◌&&◌, not, List, unwrap_or, ◌==◌, nat_lt, nat_le, if◌then◌else◌}
 use Rattle.std.specs.Map.{lookup}
 use Rattle.scr_base.specs.declared.row.Row.{Row}
 use Rattle.scr_base.specs.declared.row.Verdict.{Verdict}
@@ -40,4 +40,4 @@ unfoldable pub step : ℕ → List (Address × ℕ) → Row → List (Address ×
 step threshold flows row =
     if not (is_looked_at row) then (flows, OTHER) else
     (let count = count_after flows (source_of row) in
-     (set_key is_same FLOWS flows (source_of row) count, if nat_lt threshold count then DROP else PASS))
+    (set_key is_same FLOWS flows (source_of row) count, if nat_lt threshold count then DROP else PASS))

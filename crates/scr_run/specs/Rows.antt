@@ -14,7 +14,13 @@ zero_row = record { w0 = 0; w1 = 0; w2 = 0; w3 = 0; w4 = 0; w5 = 0; w6 = 0 }
 -- the source address, its family and the kind, in their places
 abbrev pub source_row : ℕ → Parsed → Row
 source_row kind frame = record {
-  w0 = frame.source / 2 ^ 64; w1 = frame.source % 2 ^ 64; w2 = 0; w3 = 0; w4 = frame.family * 2 ^ 8 + kind; w5 = 0; w6 = 0;
+  w0 = frame.source / 2 ^ 64;
+  w1 = frame.source % 2 ^ 64;
+  w2 = 0;
+  w3 = 0;
+  w4 = frame.family * 2 ^ 8 + kind;
+  w5 = 0;
+  w6 = 0;
 }
 
 abbrev pub row_in : Kind → Parsed → Row

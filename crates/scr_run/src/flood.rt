@@ -1,7 +1,7 @@
-ghost use Rattle.std.specs.Prelude.{◌≡◌, ◌<◌, ◌≤◌, ◌+◌, ◌++◌, ◌∷◌, [], ℕ, Some, None, length, take, drop, vec_len, slice_get, IfOk, IfSome, OnErr, IfNone};
+ghost use Rattle.std.specs.Prelude.{◌≡◌, ◌<◌, ◌≤◌, ◌+◌, ◌++◌, ◌∷◌, [], ℕ, Some, None, length, take, drop, vec_len, slice_get, IfOk, IfSome, OnOk, OnErr, IfNone};
 ghost use Rattle.std.specs.Option.{option_map};
 ghost use Rattle.std.specs.Map.{lookup, remove_entry};
-ghost use Rattle.scr_run.specs.Flood.{is_same, source_of};
+ghost use Rattle.scr_run.specs.Flood.{is_same, source_of, FLOWS as MOST};
 ghost use Rattle.scr_run.specs.Rows.{flood_row};
 
 use scr_base::{OutOfMemory, Row, Verdict};
@@ -63,11 +63,11 @@ pub(crate) fn row_of(frame: &Parsed) -> Row
 pub(crate) struct FloodCounter {
     pub(crate) threshold: u32,
     pub(crate) flows: Vec<(Address, u64)>,
-    ghost few: { vec_len flows ≤ 4096 },
+    ghost few: { vec_len flows ≤ MOST },
 }
 
 impl FloodCounter {
-    ghost use Rattle.scr_run.specs.Flood.{step, count_after, is_same, FLOWS as MOST};
+    ghost use Rattle.scr_run.specs.Flood.{step, count_after};
     ghost use Rattle.scr_run.specs.FlowList.{set_key};
 
     pub(crate) fn new(alloc: Global, threshold: u32) -> Self
@@ -81,6 +81,7 @@ impl FloodCounter {
     }
 
     /// Takes the row of the next packet, and gives its verdict. At `Err` nothing has changed.
+    #[tactic(auto, unfolding(crate::specs::Flood::step))]
     pub(crate) fn step(&mut self, row: &Row) -> Result<Verdict, OutOfMemory>
         ensures taken { IfOk result (λ verdict. step self.old.threshold self.old.flows.items row.now ≡ (self.new.flows.items, verdict)) }
         ensures err { OnErr result (self.new.flows.items ≡ self.old.flows.items) }
@@ -91,7 +92,11 @@ impl FloodCounter {
             return Ok(OTHER);
         }
         let count = self.count(source_of(row))?;
-        Ok(if u64::from(self.threshold) < count { DROP } else { PASS })
+        Ok(if u64::from(self.threshold) < count {
+            DROP
+        } else {
+            PASS
+        })
     }
 
     // Counts one more packet of a source, which is then the latest, and gives its count.
@@ -106,11 +111,7 @@ impl FloodCounter {
             bring_forward(&mut self.flows, place, (source, count));
             return Ok(count);
         }
-        if self.flows.len() < FLOWS {
-            self.flows.push((source, 1))?;
-        }
-        let last = self.flows.len() - 1;
-        bring_forward(&mut self.flows, last, (source, 1));
+        put_new(&mut self.flows, (source, 1))?;
         Ok(1)
     }
 }
@@ -135,6 +136,21 @@ fn place_of(flows: &[(Address, u64)], source: Address) -> Option<usize>
     flows.iter().position(|pair| source == pair.0)
 }
 
+// Puts the pair of a source that has none to the front. Where the table is full, the last pair is dropped.
+fn put_new(flows: &mut Vec<(Address, u64)>, pair: (Address, u64)) -> Result<(), OutOfMemory>
+    requires few { vec_len flows.old ≤ MOST }
+    ensures put { OnOk result (flows.new.items ≡ take MOST (pair ∷ flows.old.items)) }
+    ensures err { OnErr result (flows.new.items ≡ flows.old.items) }
+    ensures few { vec_len flows.new ≤ MOST }
+{
+    if flows.len() < FLOWS {
+        flows.push(pair)?;
+    }
+    let last = flows.len() - 1;
+    bring_forward(flows, last, pair);
+    Ok(())
+}
+
 // Puts a pair to the front in the place of the one that stands at `place`.
 fn bring_forward(flows: &mut [(Address, u64)], place: usize, pair: (Address, u64))
     requires { place < length flows.old }
@@ -142,4 +158,99 @@ fn bring_forward(flows: &mut [(Address, u64)], place: usize, pair: (Address, u64
 {
     flows[place] = pair;
     flows[..=place].rotate_right(1);
+}
+
+#[cfg(test)]
+mod tests {
+    use super::*;
+    use std::test::Fail;
+
+    // The row of a frame from a source.
+    fn row_from(kind: Kind, family: u8, source: u128) -> Row {
+        row_of(&Parsed {
+            kind,
+            family,
+            source,
+            destination: 0,
+            source_port: 0,
+            destination_port: 0,
+            protocol: 0,
+            flags: 0,
+            length: 0,
+        })
+    }
+
+    #[test]
+    fn counts_each_source(rt: HostRuntime) -> Result<(), Fail> {
+        let near = 1;
+        let far = (1 << 64) + 1;
+        let mut counter = FloodCounter::new(rt.alloc(), 1);
+        for (source, verdict) in [
+            (near, PASS),
+            (far, PASS),
+            (near, DROP),
+            (far, DROP),
+            (near, DROP),
+        ] {
+            assert_eq!(rt;
+                counter.step(&row_from(Kind::Udp, 1, source))?,
+                verdict,
+                "at {source}"
+            );
+        }
+        Ok(())
+    }
+
+    #[test]
+    fn tells_families_apart(rt: HostRuntime) -> Result<(), Fail> {
+        let mut counter = FloodCounter::new(rt.alloc(), 1);
+        for (family, verdict) in [(0, PASS), (1, PASS), (0, DROP), (1, DROP)] {
+            assert_eq!(rt;
+                counter.step(&row_from(Kind::Udp, family, 7))?,
+                verdict,
+                "at {family}"
+            );
+        }
+        Ok(())
+    }
+
+    #[test]
+    fn counts_each_kind(rt: HostRuntime) -> Result<(), Fail> {
+        let mut counter = FloodCounter::new(rt.alloc(), 2);
+        for (kind, verdict) in [
+            (Kind::Bare, PASS),
+            (Kind::Tcp, PASS),
+            (Kind::Other, OTHER),
+            (Kind::Udp, DROP),
+        ] {
+            assert_eq!(rt;
+                counter.step(&row_from(kind, 0, 7))?,
+                verdict,
+                "at {kind:?}"
+            );
+        }
+        Ok(())
+    }
+
+    #[test]
+    fn forgets_the_source_seen_longest_ago(rt: HostRuntime) -> Result<(), Fail> {
+        let mut counter = FloodCounter::new(rt.alloc(), 1);
+        // One source more than the table holds: the first is forgotten.
+        for source in 0..=4096 {
+            assert_eq!(rt;
+                counter.step(&row_from(Kind::Tcp, 0, source))?,
+                PASS,
+                "at {source}"
+            );
+        }
+        // The second is still known, and is the latest now. The first is new, so that the third is forgotten.
+        for (source, verdict) in [(1, DROP), (0, PASS), (1, DROP), (3, DROP), (2, PASS)] {
+            assert_eq!(rt;
+                counter.step(&row_from(Kind::Tcp, 0, source))?,
+                verdict,
+                "at {source}"
+            );
+        }
+        Ok(())
+    }
 }

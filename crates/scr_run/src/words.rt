@@ -20,3 +20,55 @@ pub(crate) fn threshold_of(words: &[Word]) -> Option<u32>
         Err(_) => None,
     }
 }
+
+#[cfg(test)]
+mod tests {
+    use super::*;
+    use scr_base::OutOfMemory;
+    use std::alloc::Global;
+    use std::test::Fail;
+
+    fn words_of(alloc: Global, texts: &[&str]) -> Result<Vec<Word>, OutOfMemory> {
+        let mut words = Vec::new(alloc);
+        for text in texts {
+            words.push(Word::of(alloc, text.as_bytes())?)?;
+        }
+        Ok(words)
+    }
+
+    #[test]
+    fn reads_thresholds(rt: HostRuntime) -> Result<(), Fail> {
+        let cases = [
+            ("threshold=2", Some(2)),
+            ("threshold=0", Some(0)),
+            ("threshold=007", Some(7)),
+            ("threshold=4294967295", Some(4294967295)),
+            ("threshold=4294967296", None),
+            ("threshold=", None),
+            ("threshold=-1", None),
+            ("threshold", None),
+            ("Threshold=2", None),
+        ];
+        for (word, threshold) in cases {
+            let words = words_of(rt.alloc(), &["run", "program=ddos", word])?;
+            assert_eq!(rt; threshold_of(&words), threshold, "at {word}");
+        }
+        Ok(())
+    }
+
+    #[test]
+    fn takes_no_other_words(rt: HostRuntime) -> Result<(), Fail> {
+        let none = words_of(rt.alloc(), &[])?;
+        let short = words_of(rt.alloc(), &["run", "program=ddos"])?;
+        let long = words_of(
+            rt.alloc(),
+            &["run", "program=ddos", "threshold=2", "threshold=2"],
+        )?;
+        let turned = words_of(rt.alloc(), &["run", "threshold=2", "program=ddos"])?;
+        let replay = words_of(rt.alloc(), &["replay", "program=ddos", "threshold=2"])?;
+        for words in [&none, &short, &long, &turned, &replay] {
+            assert_eq!(rt; threshold_of(words), None);
+        }
+        Ok(())
+    }
+}
