@@ -92,6 +92,6 @@ WritesText-finish a b c p q x (Err e) empty passed front = record {
   rest = front.rest;
   gained = Appends-then a b c passed.sent front.sent passed.gained front.gained;
   parts =
-    ap (λ (t : List ℕ). t ++ x) (sym empty) ∙ passed.parts ∙ ap (λ (t : List ℕ). passed.sent ++ t) front.parts
-    ∙ sym (append_assoc passed.sent front.sent front.rest);
+      ap (λ (t : List ℕ). t ++ x) (sym empty) ∙ passed.parts ∙ ap (λ (t : List ℕ). passed.sent ++ t) front.parts
+      ∙ sym (append_assoc passed.sent front.sent front.rest);
 }

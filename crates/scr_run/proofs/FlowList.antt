@@ -67,7 +67,7 @@ module _ {K V : Type 0} where
       let all : length ((key, entry) ∷ (take place flows ++ drop (place + 1) flows)) ≤ limit = simp (length-append, length-take, length-drop) (omega arith) in
       rw stands.2 (sym (take_all limit _ all))
 
-  -- the pair of a key that has none is put behind all where there is room, else in the place of the last, and then moved to the front
+  -- where the key has no pair none goes, and its new pair comes to the front
   pub set_key-absent : (same : K → K → Bool) (limit : ℕ) (flows : List (K × V)) (key : K) (entry : V) → IsAbsent (same key) flows → take limit ((key, entry) ∷ flows) ≡ set_key same limit flows key entry
   set_key-absent same limit flows key entry absent = rw absent.1 refl
 

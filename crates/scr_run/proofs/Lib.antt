@@ -1,3 +1,4 @@
 pub mod FlowList
 pub mod OneCore
 pub mod Progress
+pub mod Ending

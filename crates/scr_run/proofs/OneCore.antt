@@ -17,7 +17,7 @@ flows_after-push threshold flows (first ∷ rows) row = flows_after-push thresho
 -- the verdict of one row more
 pub given_from-push : (threshold : ℕ) (flows : List (Address × ℕ)) (number : ℕ) (rows : List Row) (row : Row)
     → given_from threshold flows number (rows ++ row ∷ []) ≡ given_from threshold flows number rows
-      ++ record { number = number + length rows; verdict = (step threshold (flows_after threshold flows rows) row).1 } ∷ []
+    ++ record { number = number + length rows; verdict = (step threshold (flows_after threshold flows rows) row).1 } ∷ []
 given_from-push threshold flows number [] row =
     let e : number ≡ number + 0 = omega arith in
     ap (λ (n : ℕ). record { number = n; verdict = (step threshold flows row).1 } ∷ []) e
@@ -26,7 +26,7 @@ given_from-push threshold flows number (first ∷ rows) row =
     let e : (number + 1) + length rows ≡ number + length (first ∷ rows) = omega arith in
     let verdict = (step threshold (flows_after threshold (step threshold flows first).0 rows) row).1 in
     ap (λ (t : List Given). record { number = number; verdict = (step threshold flows first).1 } ∷ t)
-      (later ∙ ap (λ (n : ℕ). given_from threshold (step threshold flows first).0 (number + 1) rows ++ record { number = n; verdict = verdict } ∷ []) e)
+    (later ∙ ap (λ (n : ℕ). given_from threshold (step threshold flows first).0 (number + 1) rows ++ record { number = n; verdict = verdict } ∷ []) e)
 
 -- as many verdicts as rows
 pub length-given_from : (threshold : ℕ) (flows : List (Address × ℕ)) (number : ℕ) (rows : List Row)
@@ -47,7 +47,7 @@ flows_of-push threshold records r =
 
 pub verdicts_of-push : (threshold : ℕ) (records : List Record) (r : Record) (number : ℕ) → number ≡ length records + 1
     → verdicts_of threshold (records ++ r ∷ []) ≡ verdicts_of threshold records
-      ++ record { number = number; verdict = (step threshold (flows_of threshold records) (row_of r)).1 } ∷ []
+    ++ record { number = number; verdict = (step threshold (flows_of threshold records) (row_of r)).1 } ∷ []
 verdicts_of-push threshold records r number is =
     let e : 1 + length (map row_of records) ≡ number = omega (arith, length-map records row_of, is) in
     ap (given_from threshold [] 1) (map_push row_of records r) ∙ given_from-push threshold [] 1 (map row_of records) (row_of r)

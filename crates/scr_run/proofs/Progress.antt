@@ -28,8 +28,8 @@ pub record HasTaken (threshold : ℕ) (format : Format) (taken : ℕ) (old now :
 pub HasTaken-more : (threshold : ℕ) (format : Format) (taken : ℕ) (old middle now : Option (List ℕ)) (given : List Given) (flows : List (Address × ℕ)) (r : Record) (number : ℕ)
     → HasTaken threshold format taken old middle given flows → number ≡ taken + 1 → TakesRecord format middle now r
     → HasTaken threshold format number old now
-      (given ++ record { number = number; verdict = (step threshold flows (flood_row (fields r.content))).1 } ∷ [])
-      (step threshold flows (flood_row (fields r.content))).0
+    (given ++ record { number = number; verdict = (step threshold flows (flood_row (fields r.content))).1 } ∷ [])
+    (step threshold flows (flood_row (fields r.content))).0
 HasTaken-more threshold format taken old middle now given flows r number so_far next one =
     let numbered : number ≡ length so_far.records + 1 = next ∙ ap (λ (n : ℕ). n + 1) (sym so_far.count) in
     record {
@@ -39,12 +39,12 @@ HasTaken-more threshold format taken old middle now given flows r number so_far 
       count = omega (arith, length_push so_far.records r, numbered);
       read = TakesRecords-push format so_far.begun middle now so_far.records r so_far.read one;
       given_are =
-        ap (λ (t : List Given). t ++ record { number = number; verdict = (step threshold flows (flood_row (fields r.content))).1 } ∷ []) so_far.given_are
-        ∙ ap (λ (f : List (Address × ℕ)). verdicts_of threshold so_far.records ++ record { number = number; verdict = (step threshold f (flood_row (fields r.content))).1 } ∷ []) so_far.flows_are
-        ∙ sym (verdicts_of-push threshold so_far.records r number numbered);
+          ap (λ (t : List Given). t ++ record { number = number; verdict = (step threshold flows (flood_row (fields r.content))).1 } ∷ []) so_far.given_are
+          ∙ ap (λ (f : List (Address × ℕ)). verdicts_of threshold so_far.records ++ record { number = number; verdict = (step threshold f (flood_row (fields r.content))).1 } ∷ []) so_far.flows_are
+          ∙ sym (verdicts_of-push threshold so_far.records r number numbered);
       flows_are =
-        ap (λ (f : List (Address × ℕ)). (step threshold f (flood_row (fields r.content))).0) so_far.flows_are
-        ∙ sym (flows_of-push threshold so_far.records r);
+          ap (λ (f : List (Address × ℕ)). (step threshold f (flood_row (fields r.content))).0) so_far.flows_are
+          ∙ sym (flows_of-push threshold so_far.records r);
     }
 
 -- the same, where the core's own threshold, the frame's bytes and what was left are told by equations
@@ -64,7 +64,7 @@ HasTaken-step threshold own format format' taken taken' old middle now given giv
       count = more.count ∙ sym e_taken;
       read = subst (λ (f : Format). TakesRecords f more.begun now more.records) (sym e_format) more.read;
       given_are = e_given ∙ ap (λ (t : ℕ). given ++ record { number = number; verdict = (step t flows (flood_row (fields frame))).1 } ∷ []) same
-        ∙ ap (λ (b : List ℕ). given ++ record { number = number; verdict = (step threshold flows (flood_row (fields b))).1 } ∷ []) bytes ∙ more.given_are;
+          ∙ ap (λ (b : List ℕ). given ++ record { number = number; verdict = (step threshold flows (flood_row (fields b))).1 } ∷ []) bytes ∙ more.given_are;
       flows_are = e_flows ∙ ap (λ (t : ℕ). (step t flows (flood_row (fields frame))).0) same
-        ∙ ap (λ (b : List ℕ). (step threshold flows (flood_row (fields b))).0) bytes ∙ more.flows_are;
+          ∙ ap (λ (b : List ℕ). (step threshold flows (flood_row (fields b))).0) bytes ∙ more.flows_are;
     }

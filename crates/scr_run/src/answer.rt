@@ -42,8 +42,8 @@ impl OneCore {
         ensures flows { OnOk result (self.new.counter.flows.items
             ≡ (step self.old.counter.threshold self.old.counter.flows.items (flood_row (fields frame.now))).0) }
         ensures given { OnOk result (self.new.given.items ≡ self.old.given.items ++ record {
-            number = number;
-            verdict = (step self.old.counter.threshold self.old.counter.flows.items (flood_row (fields frame.now))).1;
+          number = number;
+          verdict = (step self.old.counter.threshold self.old.counter.flows.items (flood_row (fields frame.now))).1;
         } ∷ []) }
     {
         let row = row_of(&parse(frame));

@@ -32,7 +32,11 @@ fn put_fault_line<E: Sink>(batch: &mut Batch, err: &mut E, status: &Status) -> R
     }
 }
 
-fn put_capture_line<E: Sink>(batch: &mut Batch, err: &mut E, error: &CaptureError) -> Result<(), SinkError>
+fn put_capture_line<E: Sink>(
+    batch: &mut Batch,
+    err: &mut E,
+    error: &CaptureError,
+) -> Result<(), SinkError>
     ensures text { BatchesText (E.written err.old) (E.written err.new) batch.old batch.new result (capture_line error.now) }
     ensures cause { HasSinkCause E.faults E.wants err.old err.new result }
 {
@@ -50,7 +54,11 @@ fn put_capture_line<E: Sink>(batch: &mut Batch, err: &mut E, error: &CaptureErro
     }
 }
 
-fn put_word_line<E: Sink>(batch: &mut Batch, err: &mut E, fault: &WordFault) -> Result<(), SinkError>
+fn put_word_line<E: Sink>(
+    batch: &mut Batch,
+    err: &mut E,
+    fault: &WordFault,
+) -> Result<(), SinkError>
     ensures text { BatchesText (E.written err.old) (E.written err.new) batch.old batch.new result (word_line fault.now) }
     ensures cause { HasSinkCause E.faults E.wants err.old err.new result }
 {

@@ -174,7 +174,12 @@ fn put_totals<O: Sink>(batch: &mut Batch, out: &mut O, given: &[Given]) -> Resul
     Ok(())
 }
 
-fn put_total<O: Sink>(batch: &mut Batch, out: &mut O, given: &[Given], verdict: Verdict) -> Result<(), SinkError>
+fn put_total<O: Sink>(
+    batch: &mut Batch,
+    out: &mut O,
+    given: &[Given],
+    verdict: Verdict,
+) -> Result<(), SinkError>
     ensures text { BatchesText (O.written out.old) (O.written out.new) batch.old batch.new result (total_line given.now (verdict.0, name_of verdict)) }
     ensures cause { HasSinkCause O.faults O.wants out.old out.new result }
 {

@@ -30,7 +30,7 @@ loop-core-preserved g c =
     let counted : c.next.new.self.taken ≡ c.in-Some.info.number = ap (λ (s : ReaderState). s.taken) state ∙ sym took.2 in
     record {
       taken = HasTaken-step _ _ _ _ _ _ _ _ _ _ _ _ _ _ _ _ was.taken was.threshold c.bytes.ensures.bytes took.2 took.4
-        c.next.ensures.format counted c.in_ok-take.ensures.given c.in_ok-take.ensures.flows;
+          c.next.ensures.format counted c.in_ok-take.ensures.given c.in_ok-take.ensures.flows;
       reading = ap (λ (s : ReaderState). s.progress) state ∙ was.reading;
       few = c.next.ensures.within;
       threshold = c.take.ensures.threshold ∙ was.threshold;

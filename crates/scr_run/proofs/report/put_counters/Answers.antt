@@ -22,7 +22,7 @@ returns-in_err-put_core-clause-text g c =
     let one : core_line (0, all_kept n) ≡ core_line (0, all_kept n) ++ [] = sym (append-nil (core_line (0, all_kept n))) in
     let P : List ℕ → Type 0 = λ t. AppendsPrefix (g.O.Sink.written c.args.out.now) (g.O.Sink.written c.put_core.new.out) (c.args.batch.now ++ (frames_line n n n ++ (t ++ (flows_line c.args.flows ++ totals)))) in
     rw failed.1 (subst P one (Passes-stops _ _ _ c.args.batch.now c.put_frames.new.batch (frames_line n n n) (core_line (0, all_kept n) ++ (flows_line c.args.flows ++ totals)) c.in_ok-put_frames.ensures.text
-      (AppendsPrefix-longer _ _ c.put_frames.new.batch (core_line (0, all_kept n)) (flows_line c.args.flows ++ totals) c.in_err-put_core.ensures.text)))
+    (AppendsPrefix-longer _ _ c.put_frames.new.batch (core_line (0, all_kept n)) (flows_line c.args.flows ++ totals) c.in_err-put_core.ensures.text)))
 
 pub returns-in_err-put_flows-clause-text : goal.returns-in_err-put_flows-clause-text
 returns-in_err-put_flows-clause-text g c =
@@ -32,8 +32,8 @@ returns-in_err-put_flows-clause-text g c =
     let one : core_line (0, all_kept n) ≡ core_line (0, all_kept n) ++ [] = sym (append-nil (core_line (0, all_kept n))) in
     let P : List ℕ → Type 0 = λ t. AppendsPrefix (g.O.Sink.written c.args.out.now) (g.O.Sink.written c.put_flows.new.out) (c.args.batch.now ++ (frames_line n n n ++ (t ++ (flows_line c.args.flows ++ totals)))) in
     rw failed.1 (subst P one (Passes-stops _ _ _ c.args.batch.now c.put_frames.new.batch (frames_line n n n) (core_line (0, all_kept n) ++ (flows_line c.args.flows ++ totals)) c.in_ok-put_frames.ensures.text
-      (Passes-stops _ _ _ c.put_frames.new.batch c.put_core.new.batch (core_line (0, all_kept n)) (flows_line c.args.flows ++ totals) c.in_ok-put_core.ensures.text
-        (AppendsPrefix-longer _ _ c.put_core.new.batch (flows_line c.args.flows) totals c.in_err-put_flows.ensures.text))))
+    (Passes-stops _ _ _ c.put_frames.new.batch c.put_core.new.batch (core_line (0, all_kept n)) (flows_line c.args.flows ++ totals) c.in_ok-put_core.ensures.text
+    (AppendsPrefix-longer _ _ c.put_core.new.batch (flows_line c.args.flows) totals c.in_err-put_flows.ensures.text))))
 
 pub returns-clause-text : goal.returns-clause-text
 returns-clause-text g c =
@@ -42,5 +42,5 @@ returns-clause-text g c =
     let one : core_line (0, all_kept n) ≡ core_line (0, all_kept n) ++ [] = sym (append-nil (core_line (0, all_kept n))) in
     let P : List ℕ → Type 0 = λ t. BatchesText (g.O.Sink.written c.args.out.now) (g.O.Sink.written c.put_totals.new.out) c.args.batch.now c.put_totals.new.batch c.put_totals.result (frames_line n n n ++ (t ++ (flows_line c.args.flows ++ totals))) in
     subst P one (BatchesText-then _ _ _ _ _ _ _ _ c.put_totals.result c.in_ok-put_frames.ensures.text
-      (BatchesText-then _ _ _ _ _ _ _ _ c.put_totals.result c.in_ok-put_core.ensures.text
-        (BatchesText-then _ _ _ _ _ _ _ _ c.put_totals.result c.in_ok-put_flows.ensures.text c.put_totals.ensures.text)))
+    (BatchesText-then _ _ _ _ _ _ _ _ c.put_totals.result c.in_ok-put_core.ensures.text
+    (BatchesText-then _ _ _ _ _ _ _ _ c.put_totals.result c.in_ok-put_flows.ensures.text c.put_totals.ensures.text)))

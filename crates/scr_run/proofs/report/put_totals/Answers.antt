@@ -19,7 +19,7 @@ returns-in_err-put_total-clause-text g c =
     let f = total_line c.args.given.now in
     let P : ℕ × List ℕ → Type 0 = λ x. AppendsPrefix (g.O.Sink.written c.loop-place.out) (g.O.Sink.written c.put_total.new.out) (c.loop-place.batch ++ f x) in
     rw failed.1 (Passes-fails f (enumerate_from 0 NAMES) c.loop-place.place (0, []) _ _ _ _ _ c.loop-place-test.true c.loop-place.invariant.passed
-      (subst P (named c.loop-place.place c.loop-place-test.true) c.in_err-put_total.ensures.text))
+    (subst P (named c.loop-place.place c.loop-place-test.true) c.in_err-put_total.ensures.text))
 
 pub loop-place-preserved : goal.loop-place-preserved
 loop-place-preserved g c =
@@ -27,7 +27,7 @@ loop-place-preserved g c =
     let P : ℕ × List ℕ → Type 0 = λ x. Passes (g.O.Sink.written c.loop-place.out) (g.O.Sink.written c.put_total.new.out) c.loop-place.batch c.put_total.new.batch (f x) in
     record {
       passed = Passes-more f (enumerate_from 0 NAMES) c.loop-place.place (0, []) _ _ _ _ _ _ c.loop-place-test.true c.loop-place.invariant.passed
-        (subst P (named c.loop-place.place c.loop-place-test.true) c.in_ok-put_total.ensures.text);
+          (subst P (named c.loop-place.place c.loop-place-test.true) c.in_ok-put_total.ensures.text);
       faults = omega arith;
       wants = omega arith;
     }
