@@ -1,8 +1,11 @@
 ghost use Rattle.std.specs.Prelude.{◌≡◌, ◌+◌, ◌≤◌, ◌++◌, ℕ, List, [], length, take, decimal, OnOk};
+ghost use Rattle.std.specs.List.{flat_map};
 ghost use Rattle.scr_base.specs.Causes.{HasSinkCause};
 ghost use Rattle.scr_base.specs.Streams.{WritesText, BatchesText};
+ghost use Rattle.scr_base.specs.Pieces.{text_of};
 ghost use Rattle.scr_base.specs.declared.batch.TheConstants.{SIZE};
 
+use crate::piece::Piece;
 use crate::sink::{Sink, SinkError};
 use crate::writing::put_all;
 use itoa::Buffer;
@@ -81,6 +84,27 @@ impl Batch {
     {
         let mut buffer = Buffer::new();
         self.put(out, buffer.format(n).as_bytes())
+    }
+
+    /// Puts the texts of these pieces one after another, as `put` does.
+    pub fn put_pieces<O: Sink>(&mut self, out: &mut O, pieces: &[Piece]) -> Result<(), SinkError>
+        ensures text { BatchesText (O.written out.old) (O.written out.new) self.old self.new result (flat_map text_of pieces.now) }
+        ensures cause { HasSinkCause O.faults O.wants out.old out.new result }
+    {
+        for piece in pieces {
+            self.put_piece(out, piece)?;
+        }
+        Ok(())
+    }
+
+    fn put_piece<O: Sink>(&mut self, out: &mut O, piece: &Piece) -> Result<(), SinkError>
+        ensures text { BatchesText (O.written out.old) (O.written out.new) self.old self.new result (text_of piece.now) }
+        ensures cause { HasSinkCause O.faults O.wants out.old out.new result }
+    {
+        match piece {
+            Piece::Text(text) => self.put(out, text),
+            Piece::Number(number) => self.put_decimal(out, *number),
+        }
     }
 
     /// Writes what is held. At `Err` the sink has gained a front of it.

@@ -27,6 +27,7 @@ pub struct Parsed {
     pub protocol: u8,
     /// The flags of TCP, from CWR in the most significant bit to FIN in the least.
     pub flags: u8,
-    /// The length of the IP packet in bytes, its header included and padding left out.
+    /// The bytes of the IP packet as its header tells them, the header included and padding left out; those
+    /// that were captured where the header tells 0.
     pub length: u32,
 }

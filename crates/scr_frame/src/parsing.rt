@@ -1,22 +1,88 @@
-ghost use Rattle.std.specs.Prelude.{◌≡◌, ◌≤◌, length};
-ghost use Rattle.scr_frame.specs.Fields.{other, fields};
+ghost use Rattle.std.specs.Prelude.{◌≡◌, ◌≤◌, length, IfSome};
+ghost use Rattle.std.specs.Option.{option_map};
+ghost use Rattle.scr_frame.specs.Fields.{ethernet, transport, fields};
 
+use crate::number::u16_at;
+use crate::packet::{Packet, ipv4, ipv6};
 use crate::parsed::{Kind, Parsed};
 
-/// The longest frame that a capture holds, in bytes.
+const TYPE_IPV4: u16 = 0x0800;
+
+const TYPE_IPV6: u16 = 0x86DD;
+
+const TYPE_TAG: u16 = 0x8100;
+
+const TCP: u8 = 6;
+
+const UDP: u8 = 17;
+
+const OTHER: Parsed = Parsed {
+    kind: Kind::Other,
+    family: 0,
+    source: 0,
+    destination: 0,
+    source_port: 0,
+    destination_port: 0,
+    protocol: 0,
+    flags: 0,
+    length: 0,
+};
+
+/// The fields of a frame of at most 262,144 bytes.
+#[tactic(auto, unfolding(crate::specs::Fields::fields))]
 pub fn parse(bytes: &[u8]) -> Parsed
     requires { length bytes.now ≤ 262144 }
     ensures { result ≡ fields bytes.now }
 {
-    Parsed {
-        kind: Kind::Other,
-        family: 0,
-        source: 0,
-        destination: 0,
-        source_port: 0,
-        destination_port: 0,
-        protocol: 0,
-        flags: 0,
-        length: 0,
+    let Some((ethertype, bytes)) = ethernet(bytes) else {
+        return OTHER;
+    };
+    let packet = match ethertype {
+        TYPE_IPV4 => ipv4(bytes),
+        TYPE_IPV6 => ipv6(bytes),
+        _ => None,
+    };
+    match packet {
+        Some(packet) => transport(&packet, bytes),
+        None => OTHER,
+    }
+}
+
+/// The type of a frame, and the bytes behind it; none where the frame ends before that.
+#[tactic(auto, unfolding(crate::specs::Fields::ethernet))]
+fn ethernet(frame: &[u8]) -> Option<(u16, &[u8])>
+    ensures parts { option_map (λ x. (x.0, x.1.now)) result ≡ ethernet frame.now }
+    ensures shorter { IfSome result (λ x. length x.1.now ≤ length frame.now) }
+{
+    if frame.len() < 14 {
+        return None;
+    }
+    let ethertype = u16_at(frame, 12);
+    if ethertype != TYPE_TAG {
+        return Some((ethertype, &frame[14..]));
+    }
+    if frame.len() < 18 {
+        return None;
+    }
+    Some((u16_at(frame, 16), &frame[18..]))
+}
+
+/// The packet, and what its transport header says, if that is looked at and whole.
+#[tactic(auto, unfolding(crate::specs::Fields::transport))]
+fn transport(packet: &Packet, bytes: &[u8]) -> Parsed
+    ensures { result ≡ transport packet.now bytes.now }
+{
+    let start = usize::from(packet.header);
+    let end = bytes.len().min(packet.length as usize);
+    match packet.protocol {
+        TCP if packet.fragment == 0 && start + 20 <= end && bytes[start + 12] >> 4 >= 5 => {
+            let header = &bytes[start..];
+            packet.with_transport(Kind::Tcp, u16_at(header, 0), u16_at(header, 2), header[13])
+        }
+        UDP if packet.fragment == 0 && start + 8 <= end => {
+            let header = &bytes[start..];
+            packet.with_transport(Kind::Udp, u16_at(header, 0), u16_at(header, 2), 0)
+        }
+        _ => packet.with_transport(Kind::Bare, 0, 0, 0),
     }
 }
