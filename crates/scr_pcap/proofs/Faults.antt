@@ -18,10 +18,10 @@ greatest-from_header : (format : Format) (taken : ℕ) (first behind : List ℕ)
     → (taken ≡ RECORDS) ⊎ NoRecord format (first ++ behind)
 greatest-from_header format taken first behind enough fails =
     elim fails [
-      inl many ↦ inl many
-    | inr rest ↦ elim rest [
-        inl short ↦ absurd (omega arith)
-      | inr long ↦ inr (NoRecord-from_long format (first ++ behind) (let e = captured_in-append format first behind enough in omega arith))
+      | inl many ↦ inl many
+      | inr rest ↦ elim rest [
+        | inl short ↦ absurd (omega arith)
+        | inr long ↦ inr (NoRecord-from_long format (first ++ behind) (let e = captured_in-append format first behind enough in omega arith))
       ]
     ]
 
@@ -32,14 +32,14 @@ IsFaultyRest-from_header format taken first behind fault some last fails told =
     let count = length-append first behind in
     let more : first ++ behind ≢ [] = λ none. let e : length (first ++ behind) ≡ 0 = ap length none in omega arith in
     elim (cases_lt (length first) 16) [
-      inl short ↦
-        let alone : first ++ behind ≡ first = ap (λ (t : List ℕ). first ++ t) (last short) ∙ append-nil first in
-        record {
-          more = more;
-          greatest = inr (NoRecord-from_short format (first ++ behind) (let e = ap length alone in omega arith));
-          first_test = told ∙ sym (ap (rest_fault format taken) alone);
-        }
-    | inr enough ↦ record {
+      | inl short ↦
+          let alone : first ++ behind ≡ first = ap (λ (t : List ℕ). first ++ t) (last short) ∙ append-nil first in
+          record {
+            more = more;
+            greatest = inr (NoRecord-from_short format (first ++ behind) (let e = ap length alone in omega arith));
+            first_test = told ∙ sym (ap (rest_fault format taken) alone);
+          }
+      | inr enough ↦ record {
         more = more;
         greatest = greatest-from_header format taken first behind enough fails;
         first_test = told ∙ sym (rest_fault-append format taken first behind enough);

@@ -43,7 +43,7 @@ tests-append : (format : Option Format) (first behind : List ℕ) → 24 ≤ len
 tests-append None first behind h = refl
 tests-append (Some format) first behind h =
     let test : ℕ → ℕ → ℕ → Result Format CaptureError = λ major minor link.
-      if not ((major == 2) && (minor == 4)) then Err Version else (if not (link % 2 ^ 16 == 1) then Err LinkType else Ok format) in
+    if not ((major == 2) && (minor == 4)) then Err Version else (if not (link % 2 ^ 16 == 1) then Err LinkType else Ok format) in
     let number = number_at format.order in
     ap (λ (n : ℕ). test n (number 6 2 (first ++ behind)) (number 20 4 (first ++ behind))) (number_at-append format.order 4 2 first behind (omega arith))
     ∙ ap (λ (n : ℕ). test (number 4 2 first) n (number 20 4 (first ++ behind))) (number_at-append format.order 6 2 first behind (omega arith))
@@ -64,5 +64,5 @@ rest_fault-append format taken first behind h =
     let whole : nat_lt (length (first ++ behind)) 16 ≡ false = search (rules, tests) in
     let enough : nat_lt (length first) 16 ≡ false = search (rules, tests) in
     let test : ℕ → CaptureError = λ captured.
-      if taken == RECORDS then TooMany RECORDS else (if nat_lt CAPTURED captured then LongRecord (taken + 1) captured else ShortRecord (taken + 1)) in
+    if taken == RECORDS then TooMany RECORDS else (if nat_lt CAPTURED captured then LongRecord (taken + 1) captured else ShortRecord (taken + 1)) in
     rw (whole, enough) (ap test (captured_in-append format first behind h))

@@ -30,10 +30,9 @@ first_told format first behind r front =
     let whole = front.whole in
     let enough : 16 ≤ length first = omega arith in
     let captured = captured_in-append format first behind enough in
-    let end : length first ≡ end_of_first format (first ++ behind) = omega arith in
-    (
+    let end : length first ≡ end_of_first format (first ++ behind) = omega arith in (
       same_record r _ _ (front.time ∙ sym (time_in-append format first behind enough)) (front.content ∙ ap (drop 16) (sym (take_at first behind _ end))),
-      sym (drop_at first behind _ end)
+      sym (drop_at first behind _ end),
     )
 
 same_first : (format : Format) (bytes first behind first' behind' : List ℕ) (r r' : Record)
@@ -42,10 +41,9 @@ same_first : (format : Format) (bytes first behind first' behind' : List ℕ) (r
 same_first format bytes first behind first' behind' r r' parts front parts' front' =
     let one = first_told format first behind r front in
     let other = first_told format first' behind' r' front' in
-    let same : first ++ behind ≡ first' ++ behind' = sym parts ∙ parts' in
-    (
+    let same : first ++ behind ≡ first' ++ behind' = sym parts ∙ parts' in (
       one.0 ∙ ap (first_record format) same ∙ sym other.0,
-      one.1 ∙ ap (λ (b : List ℕ). drop (end_of_first format b) b) same ∙ sym other.1
+      one.1 ∙ ap (λ (b : List ℕ). drop (end_of_first format b) b) same ∙ sym other.1,
     )
 
 -- no further record is taken of this rest
@@ -72,8 +70,8 @@ same_records format taken (r ∷ records) (r' ∷ records') bytes rest rest' (fi
     let same = same_first format bytes first behind first' behind' r r' parts front parts' front' in
     let moved : (n : ℕ) → taken + (n + 1) ≡ taken + 1 + n = λ n. omega arith in
     let tails = same_records format (taken + 1) records records' behind rest rest'
-      spelled (omega arith) (subst (λ (n : ℕ). Stops format n rest) (omega arith) stops)
-      (subst (λ (b : List ℕ). BeginWith format records' b rest') (sym same.1) spelled') (omega arith) (subst (λ (n : ℕ). Stops format n rest') (omega arith) stops') in
+    spelled (omega arith) (subst (λ (n : ℕ). Stops format n rest) (omega arith) stops)
+    (subst (λ (b : List ℕ). BeginWith format records' b rest') (sym same.1) spelled') (omega arith) (subst (λ (n : ℕ). Stops format n rest') (omega arith) stops') in
     (ap (λ (head : Record). head ∷ records) same.0 ∙ ap (λ (tail : List Record). r' ∷ tail) tails.0, tails.1)
 
 same_format : (bytes : List ℕ) (format format' : Format) → header_of bytes ≡ Ok format → header_of bytes ≡ Ok format' → format ≡ format'

@@ -13,12 +13,12 @@ use Rattle.scr_pcap.proofs.Front.{IsFront, NoRecord-from_short, NoRecord-from_lo
 front_or_none : (format : Format) (bytes : List ℕ) → IsFront format bytes ⊎ NoRecord format bytes
 front_or_none format bytes =
     elim (cases_lt (length bytes) 16) [
-      inl short ↦ inr (NoRecord-from_short format bytes short)
-    | inr header ↦ elim (cases_lt CAPTURED (captured_in format bytes)) [
-        inl long ↦ inr (NoRecord-from_long format bytes long)
-      | inr within ↦ elim (cases_lt (length bytes) (16 + captured_in format bytes)) [
-          inl cut ↦ inr (NoRecord-from_cut format bytes cut)
-        | inr whole ↦ inl (record { header = header; within = within; whole = whole })
+      | inl short ↦ inr (NoRecord-from_short format bytes short)
+      | inr header ↦ elim (cases_lt CAPTURED (captured_in format bytes)) [
+        | inl long ↦ inr (NoRecord-from_long format bytes long)
+        | inr within ↦ elim (cases_lt (length bytes) (16 + captured_in format bytes)) [
+          | inl cut ↦ inr (NoRecord-from_cut format bytes cut)
+          | inr whole ↦ inl (record { header = header; within = within; whole = whole })
         ]
       ]
     ]
@@ -32,10 +32,9 @@ record_in_front format bytes front =
     let parts : first ++ drop (16 + captured_in format bytes) bytes ≡ bytes = take-append-drop _ bytes in
     let captured : captured_in format bytes ≡ captured_in format first =
     ap (captured_in format) (sym parts) ∙ captured_in-append format first (drop (16 + captured_in format bytes) bytes) (omega arith) in
-    let within = front.within in
-    (
+    let within = front.within in (
       record { time = time_in format first; content = drop 16 first },
-      record { whole = omega arith; within = omega arith; time = refl; content = refl }
+      record { whole = omega arith; within = omega arith; time = refl; content = refl },
     )
 
 -- behind so many records, these stand next, and no further one is taken of the rest
@@ -50,20 +49,20 @@ split : (format : Format) (room taken : ℕ) (bytes : List ℕ) → taken + room
 split format zero taken bytes full = record { records = []; rest = bytes; spelled = refl; few = omega arith; stops = inl full }
 split format (suc room) taken bytes full =
     elim (front_or_none format bytes) [
-      inr none ↦ record { records = []; rest = bytes; spelled = refl; few = omega arith; stops = inr none }
-    | inl front ↦
-        let end = 16 + captured_in format bytes in
-        let more = split format room (taken + 1) (drop end bytes) (omega arith) in
-        let found = record_in_front format bytes front in
-        let few = more.few in
-        let one_more : taken + 1 + length more.records ≡ taken + (length more.records + 1) = omega arith in
-        record {
-          records = found.0 ∷ more.records;
-          rest = more.rest;
-          spelled = (take end bytes, drop end bytes, sym (take-append-drop end bytes), found.1, more.spelled);
-          few = omega arith;
-          stops = subst (λ (n : ℕ). (n ≡ RECORDS) ⊎ NoRecord format more.rest) (omega arith) more.stops;
-        }
+      | inr none ↦ record { records = []; rest = bytes; spelled = refl; few = omega arith; stops = inr none }
+      | inl front ↦
+          let end = 16 + captured_in format bytes in
+          let more = split format room (taken + 1) (drop end bytes) (omega arith) in
+          let found = record_in_front format bytes front in
+          let few = more.few in
+          let one_more : taken + 1 + length more.records ≡ taken + (length more.records + 1) = omega arith in
+          record {
+            records = found.0 ∷ more.records;
+            rest = more.rest;
+            spelled = (take end bytes, drop end bytes, sym (take-append-drop end bytes), found.1, more.spelled);
+            few = omega arith;
+            stops = subst (λ (n : ℕ). (n ≡ RECORDS) ⊎ NoRecord format more.rest) (omega arith) more.stops;
+          }
     ]
 
 abbrev SomeReading : List ℕ → Type 0
@@ -74,8 +73,7 @@ behind_header : (format : Format) (bytes : List ℕ) (records : List Record) (re
     → SomeReading bytes
 behind_header format bytes records [] valid spelled few stops = (Ok records, record { format = format; header = valid; few = few; spelled = spelled })
 behind_header format bytes records (b ∷ rest) valid spelled few stops =
-    let more : b ∷ rest ≢ [] = λ none. cc in
-    (
+    let more : b ∷ rest ≢ [] = λ none. cc in (
       Err (rest_fault format (length records) (b ∷ rest)),
       inr (record {
         format = format;
@@ -85,7 +83,7 @@ behind_header format bytes records (b ∷ rest) valid spelled few stops =
         rest = b ∷ rest;
         spelled = spelled;
         faulty = record { more = more; greatest = stops; first_test = refl };
-      })
+      }),
     )
 
 from_header : (bytes : List ℕ) (header : Result Format CaptureError) → header_of bytes ≡ header → SomeReading bytes

@@ -33,8 +33,8 @@ alone first behind none = ap (λ (t : List ℕ). first ++ t) none ∙ append-nil
 header_of-same : (bytes first behind : List ℕ) → bytes ≡ first ++ behind → (length first < 24 → behind ≡ []) → header_of bytes ≡ header_of first
 header_of-same bytes first behind parts end =
     elim (cases_lt (length first) 24) [
-      inl short ↦ ap header_of (parts ∙ alone first behind (end short))
-    | inr enough ↦ ap header_of parts ∙ header_of-append first behind enough
+      | inl short ↦ ap header_of (parts ∙ alone first behind (end short))
+      | inr enough ↦ ap header_of parts ∙ header_of-append first behind enough
     ]
 
 -- an invalid header was read
@@ -48,11 +48,11 @@ long_from_ok : (first : List ℕ) (format : Format) → header_of first ≡ Ok f
 unfolding header_of
 long_from_ok first format told =
     elim (cases_lt (length first) 24) [
-      inl short ↦
-        let test : nat_lt (length first) 24 ≡ true = search (rules, tests) in
-        let refused : Err ShortHeader ≡ Ok format = rw test at told in
-        absurd (cc)
-    | inr enough ↦ enough
+      | inl short ↦
+          let test : nat_lt (length first) 24 ≡ true = search (rules, tests) in
+          let refused : Err ShortHeader ≡ Ok format = rw test at told in
+          absurd (cc)
+      | inr enough ↦ enough
     ]
 
 -- a valid header was read
@@ -62,10 +62,9 @@ header-taken None new first format read told = tt
 header-taken (Some bytes) None first format read told = absurd read.taken
 header-taken (Some bytes) (Some behind) first format read told =
     let enough = long_from_ok first format (sym told) in
-    let within = read.within in
-    (
+    let within = read.within in (
       header_of-same bytes first behind read.taken read.end ∙ sym told,
-      ap (λ (t : List ℕ). Some t) (sym (ap (drop 24) read.taken ∙ drop_at first behind 24 (omega arith)))
+      ap (λ (t : List ℕ). Some t) (sym (ap (drop 24) read.taken ∙ drop_at first behind 24 (omega arith))),
     )
 
 -- a test failed at the first bytes of a record
@@ -122,9 +121,8 @@ record-taken format captured time old mid new header content first second all is
     let told = first.told in
     let within = first.within in
     let whole : length content ≡ captured_in format header = omega arith in
-    let joined = IsRecord-joined format header content first.whole whole (omega arith) in
-    (
+    let joined = IsRecord-joined format header content first.whole whole (omega arith) in (
       header ++ content,
       record { whole = joined.whole; within = joined.within; time = is ∙ joined.time; content = joined.content },
-      Consumes-then old mid new header content first.taken second
+      Consumes-then old mid new header content first.taken second,
     )

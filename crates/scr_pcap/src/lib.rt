@@ -8,6 +8,8 @@ mod frame;
 mod header;
 mod laws;
 mod reader;
+#[cfg(test)]
+mod tests;
 
 pub use error::CaptureError;
 pub use format::{Format, Fraction, Order};

@@ -9,7 +9,7 @@ use crate::error::CaptureError;
 use crate::filling::fill;
 use crate::format::Format;
 use crate::frame::{FrameBuf, LONGEST};
-use crate::header::{header_of, HEADER};
+use crate::header::{HEADER, header_of};
 use scr_base::Source;
 use std::marker::Model;
 

@@ -11,10 +11,9 @@ loop-count-preserved g c =
     let kept = c.read.auto.buf in
     let within : c.loop-count.count ≤ length c.loop-count.buf = omega arith in
     let enough : c.in_ok-more.more ≤ length c.read.new.buf = grind (arith, common_steps) in
-    let front = take-put_mid_front c.loop-count.count _ c.in_ok-more.more c.loop-count.buf c.read.new.buf within enough in
-    (
+    let front = take-put_mid_front c.loop-count.count _ c.in_ok-more.more c.loop-count.buf c.read.new.buf within enough in (
       grind (arith, common_steps),
       subst (Consumes (source.left c.args.source.now) (source.left c.read.new.self)) (sym front)
-      (Consumes-then _ _ _ _ _ c.loop-count.invariant.1 more.bytes.0),
-      omega (arith, more.cause.later)
+          (Consumes-then _ _ _ _ _ c.loop-count.invariant.1 more.bytes.0),
+      omega (arith, more.cause.later),
     )

@@ -31,10 +31,9 @@ returns-clause-record g c =
     let header = IsHeaderTaken-from_fill c.args.self.now.format _ _ c.fill.new.buf c.in_ok-count.count c.in_ok-length.length c.fill.auto.buf c.in_ok-count.ensures.taken told.1 told.2 told.3 in
     let filled = c.in_ok-fill.ensures in
     let count = filled.count in
-    let whole = c.if-branch-length.false in
-    (
+    let whole = c.if-branch-length.false in (
       told.0,
       ap (λ (reader : ReaderState). reader.taken + 1) c.self.view_is,
       omega (arith, filled.within),
-      record-taken _ _ c.time_in.result _ _ _ c.fill.new.buf c.fill-2.new.self header filled.taken (omega (arith, filled.within)) (c.time_in.ensures ∙ ap (λ (reader : ReaderState). time_in reader.format c.fill.new.buf) c.self.view_is)
+      record-taken _ _ c.time_in.result _ _ _ c.fill.new.buf c.fill-2.new.self header filled.taken (omega (arith, filled.within)) (c.time_in.ensures ∙ ap (λ (reader : ReaderState). time_in reader.format c.fill.new.buf) c.self.view_is),
     )
