@@ -1,7 +1,6 @@
 -- What is wrong with a rest, from what was read of it.
-use Rattle.std.proofs.Common.{◌≡◌, ◌≢◌, ◌⊎◌, ℕ, ◌+◌, ◌≤◌, ◌<◌, Bool, false, List, [], ◌∷◌, ◌++◌, length, ◌==◌, nat_lt, refl, sym, ap, subst, ◌∙◌, inl, inr, arith, rules, tests}
+use Rattle.std.proofs.Common.{◌≡◌, ◌≢◌, ◌⊎◌, ℕ, ◌+◌, ◌≤◌, ◌<◌, false, List, [], ◌++◌, length, ◌==◌, nat_lt, refl, sym, ap, ◌∙◌, inl, inr, arith, rules, tests}
 use Rattle.std.proofs.lemmas.Bool.{cases_lt}
-use Rattle.std.proofs.lemmas.Bool.Decides.{nat_tests}
 use Rattle.std.proofs.lemmas.List.{length-append, append-nil}
 use Rattle.scr_pcap.specs.declared.error.CaptureError.{CaptureError}
 use Rattle.scr_pcap.specs.declared.error.CaptureError.TheVariants.{ShortRecord}

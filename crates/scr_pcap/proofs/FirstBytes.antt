@@ -1,7 +1,6 @@
 -- What a header tells doesn't change when bytes follow it.
-use Rattle.std.proofs.Common.{◌≡◌, ℕ, ◌+◌, ◌≤◌, ◌%◌, ◌^◌, Bool, false, ◌&&◌, not, List, ◌++◌, length, drop, Option, Some, None, Result, Ok, Err, ◌==◌, nat_lt, if◌then◌else◌, refl, ap, ◌∙◌, arith, rules, tests}
+use Rattle.std.proofs.Common.{◌≡◌, ℕ, ◌+◌, ◌≤◌, ◌%◌, ◌^◌, false, ◌&&◌, not, List, ◌++◌, length, drop, Option, Some, None, Result, Ok, Err, ◌==◌, nat_lt, if◌then◌else◌, refl, ap, ◌∙◌, arith, rules, tests}
 use Rattle.std.proofs.lemmas.List.{drop-append-le, length-drop, length-append}
-use Rattle.std.proofs.lemmas.Bool.Decides.{nat_tests}
 use Rattle.std.specs.Option.{option_map, option_or}
 use Rattle.byteorder.specs.Numbers.{little_from-append, big_from-append}
 use Rattle.scr_pcap.specs.declared.error.CaptureError.{CaptureError}
@@ -10,7 +9,7 @@ use Rattle.scr_pcap.specs.declared.format.Format.{Format}
 use Rattle.scr_pcap.specs.declared.format.Order.{Order}
 use Rattle.scr_pcap.specs.declared.format.Order.TheVariants.{Little, Big}
 use Rattle.scr_pcap.specs.Header.{number, number_at, fraction_of, format_in, format_of, header_in, header_of}
-use Rattle.scr_pcap.specs.Records.{RECORDS, CAPTURED, microseconds, time_in, captured_in, rest_fault}
+use Rattle.scr_pcap.specs.Records.{RECORDS, CAPTURED, time_in, captured_in, rest_fault}
 
 pub number-append : (order : Order) (n : ℕ) (first behind : List ℕ) → n ≤ length first → number order n (first ++ behind) ≡ number order n first
 number-append Little n first behind h = little_from-append n first behind h

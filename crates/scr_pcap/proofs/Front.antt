@@ -1,8 +1,8 @@
 -- A record in front, and when there is none.
-use Rattle.std.proofs.Common.{◌≡◌, ℕ, ◌+◌, ◌≤◌, ◌<◌, List, [], ◌∷◌, ◌++◌, length, take, drop, refl, sym, ap, subst, ◌∙◌, arith, rules}
-use Rattle.std.proofs.lemmas.List.{drop_at, take_at, length-append}
+use Rattle.std.proofs.Common.{◌≡◌, ℕ, ◌+◌, ◌≤◌, ◌<◌, List, ◌++◌, length, sym, subst, arith}
+use Rattle.std.proofs.lemmas.List.{drop_at, length-append}
 use Rattle.scr_pcap.specs.declared.format.Format.{Format}
-use Rattle.scr_pcap.specs.Records.{Record, CAPTURED, IsRecord, NoRecord, BeginWith, time_in, captured_in}
+use Rattle.scr_pcap.specs.Records.{Record, CAPTURED, IsRecord, NoRecord, time_in, captured_in}
 use Rattle.scr_pcap.proofs.FirstBytes.{captured_in-append, time_in-append}
 
 -- what a record in front tells of the whole

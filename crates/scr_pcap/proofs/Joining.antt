@@ -1,6 +1,5 @@
 -- How a reader's steps join into the reading of a whole capture.
-use Rattle.std.proofs.Common.{◌≡◌, ℕ, ◌≤◌, List, [], ◌∷◌, ◌++◌, length, drop, Option, Some, None, Ok, Err, IfSome, refl, sym, ap, subst, ◌∙◌, inr}
-use Rattle.std.proofs.lemmas.List.{append-nil}
+use Rattle.std.proofs.Common.{◌≡◌, ℕ, ◌≤◌, List, [], ◌∷◌, ◌++◌, length, drop, Option, Some, None, Ok, Err, IfSome, refl, subst, ◌∙◌, inl, inr}
 use Rattle.std.specs.Io.KnownBytes.{IsAtEnd}
 use Rattle.scr_pcap.specs.declared.error.CaptureError.{CaptureError}
 use Rattle.scr_pcap.specs.declared.format.Format.{Format}
@@ -41,6 +40,12 @@ cut_short : (format : Format) (bytes : List ℕ) (now : Option (List ℕ)) (reco
 cut_short format bytes None records fault valid taken few faulty = absurd taken
 cut_short format bytes (Some rest) records fault valid taken few faulty =
     record { format = format; header = valid; records = records; few = few; rest = rest; spelled = taken; faulty = faulty }
+
+-- at a fault of the header
+pub IsReading-at_header : (old : Option (List ℕ)) (fault : CaptureError)
+    → IfSome old (λ bytes. header_of bytes ≡ Err fault) → IfSome old (λ bytes. IsReading bytes (Err fault))
+IsReading-at_header None fault refused = tt
+IsReading-at_header (Some bytes) fault refused = inl refused
 
 -- at the end: by what a source had at first, what it had behind the header, and what it has now
 pub IsReading-at_end : (format : Format) (old begun now : Option (List ℕ)) (records : List Record)

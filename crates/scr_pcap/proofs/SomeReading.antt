@@ -1,12 +1,12 @@
 -- A list of bytes has a reading.
-use Rattle.std.proofs.Common.{◌≡◌, ◌≢◌, ◌⊎◌, ℕ, zero, suc, ◌+◌, ◌≤◌, ◌<◌, List, [], ◌∷◌, ◌++◌, length, take, drop, Result, Ok, Err, refl, sym, ap, subst, ◌∙◌, inl, inr, arith, rules}
+use Rattle.std.proofs.Common.{◌≡◌, ◌≢◌, ◌⊎◌, ℕ, zero, suc, ◌+◌, ◌≤◌, List, [], ◌∷◌, ◌++◌, length, take, drop, Result, Ok, Err, refl, sym, ap, subst, ◌∙◌, inl, inr, arith}
 use Rattle.std.proofs.lemmas.Bool.{cases_lt}
 use Rattle.std.proofs.lemmas.List.{length-take-le, take-append-drop}
 use Rattle.scr_pcap.specs.declared.error.CaptureError.{CaptureError}
 use Rattle.scr_pcap.specs.declared.format.Format.{Format}
 use Rattle.scr_pcap.specs.Header.{header_of}
 use Rattle.scr_pcap.specs.Records.{Record, RECORDS, CAPTURED, IsRecord, NoRecord, BeginWith, time_in, captured_in, rest_fault}
-use Rattle.scr_pcap.specs.Reading.{IsCapture, IsCutShort, IsReading}
+use Rattle.scr_pcap.specs.Reading.{IsReading}
 use Rattle.scr_pcap.proofs.FirstBytes.{captured_in-append}
 use Rattle.scr_pcap.proofs.Front.{IsFront, NoRecord-from_short, NoRecord-from_long, NoRecord-from_cut}
 

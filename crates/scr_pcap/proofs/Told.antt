@@ -1,14 +1,13 @@
 -- What the first bytes that were read of a source tell of all that it had left.
-use Rattle.std.proofs.Common.{◌≡◌, ◌≢◌, ◌⊎◌, ℕ, ◌+◌, ◌≤◌, ◌<◌, Bool, true, false, List, [], ◌∷◌, ◌++◌, length, take, drop, Option, Some, None, Result, Ok, Err, IfSome, nat_lt, refl, sym, ap, subst, ◌∙◌, inl, inr, arith, rules, tests}
+use Rattle.std.proofs.Common.{◌≡◌, ℕ, ◌+◌, ◌≤◌, ◌<◌, true, List, [], ◌++◌, length, take, drop, Option, Some, None, Ok, Err, IfSome, nat_lt, sym, ap, subst, ◌∙◌, inl, inr, arith, rules, tests}
 use Rattle.std.proofs.lemmas.Bool.{cases_lt}
-use Rattle.std.proofs.lemmas.Bool.Decides.{nat_tests}
-use Rattle.std.proofs.lemmas.List.{length-append, append-nil, drop_at, length-take, length-take-le, take_all}
+use Rattle.std.proofs.lemmas.List.{append-nil, drop_at, length-take, length-take-le, take_all}
 use Rattle.std.specs.Io.KnownBytes.{Consumes, IsAtEnd}
 use Rattle.scr_pcap.specs.declared.error.CaptureError.{CaptureError}
 use Rattle.scr_pcap.specs.declared.error.CaptureError.TheVariants.{ShortHeader, ShortRecord, ReadFault}
 use Rattle.scr_pcap.specs.declared.format.Format.{Format}
 use Rattle.scr_pcap.specs.Header.{header_of}
-use Rattle.scr_pcap.specs.Records.{RECORDS, CAPTURED, IsRecord, IsFaultyRest, TakesRecord, captured_in, time_in, rest_fault}
+use Rattle.scr_pcap.specs.Records.{RECORDS, CAPTURED, IsFaultyRest, TakesRecord, captured_in, time_in, rest_fault}
 use Rattle.scr_pcap.proofs.FirstBytes.{header_of-append}
 use Rattle.scr_pcap.proofs.Front.{IsRecord-joined}
 use Rattle.scr_pcap.proofs.Faults.{HeaderFails, IsFaultyRest-from_header, IsFaultyRest-from_cut}

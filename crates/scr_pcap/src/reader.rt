@@ -51,13 +51,14 @@ pub struct Reader {
 
 impl Model for Reader {
     ghost use Rattle.std.specs.Prelude.{◌≤◌};
+    ghost use Rattle.scr_pcap.specs.Records.{RECORDS};
     ghost use Rattle.scr_pcap.specs.State.{ReaderState};
 
     ghost Value = { ReaderState };
 
     ghost view = { λ reader. record { format = reader.format; taken = reader.taken; progress = reader.progress } };
 
-    ghost invariant = { λ reader. reader.taken ≤ 1000000 };
+    ghost invariant = { λ reader. reader.taken ≤ RECORDS };
 }
 
 impl Reader {
@@ -67,7 +68,7 @@ impl Reader {
         ensures header { IfSome (S.left source.old) (λ bytes. IfOk result (λ reader.
             (header_of bytes ≡ Ok reader.format) × (S.left source.new ≡ Some (drop 24 bytes)))) }
         ensures refused { IfSome (S.left source.old) (λ bytes. IfErr result (λ error.
-            (error ≡ CaptureError.ReadFault → ⊥) → header_of bytes ≡ Err error)) }
+            error ≢ CaptureError.ReadFault → header_of bytes ≡ Err error)) }
         ensures named { IfErr result IsHeaderFault }
         ensures later { S.faults source.old ≤ S.faults source.new }
         ensures fault { result ≡ Err CaptureError.ReadFault → Rose (S.faults source.old) (S.faults source.new) }
@@ -104,7 +105,7 @@ impl Reader {
         ensures end { self.old.progress ≡ Progress.Reading → result ≡ Ok None
             → IsAtEnd (S.left source.old) × IsAtEnd (S.left source.new) }
         ensures refused { IfErr result (λ error. self.new ≡ record self.old { progress = Progress.Refused error }) }
-        ensures faulty { IfErr result (λ error. (error ≡ CaptureError.ReadFault → ⊥) → self.old.progress ≡ Progress.Reading
+        ensures faulty { IfErr result (λ error. error ≢ CaptureError.ReadFault → self.old.progress ≡ Progress.Reading
             → IfSome (S.left source.old) (λ bytes. IsFaultyRest self.old.format self.old.taken bytes error)) }
         ensures named { self.old.progress ≡ Progress.Reading → IfErr result (IsRecordFault self.old.taken) }
         ensures later { S.faults source.old ≤ S.faults source.new }
@@ -135,7 +136,7 @@ impl Reader {
             (self.now.taken < RECORDS) × (info.number ≡ self.now.taken + 1) × (info.length ≡ length frame.new)
             × TakesRecord self.now.format (S.left source.old) (S.left source.new) (record { time = info.time; content = frame.new }))) }
         ensures end { result ≡ Ok None → IsAtEnd (S.left source.old) × IsAtEnd (S.left source.new) }
-        ensures faulty { IfErr result (λ error. (error ≡ CaptureError.ReadFault → ⊥)
+        ensures faulty { IfErr result (λ error. error ≢ CaptureError.ReadFault
             → IfSome (S.left source.old) (λ bytes. IsFaultyRest self.now.format self.now.taken bytes error)) }
         ensures named { IfErr result (IsRecordFault self.now.taken) }
         ensures later { S.faults source.old ≤ S.faults source.new }

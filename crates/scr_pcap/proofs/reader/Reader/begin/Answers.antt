@@ -1,4 +1,3 @@
-use Rattle.std.proofs.Common.{arith}
 use Rattle.std.proofs.lemmas.Result.{err_from_is_err_and}
 use Rattle.scr_pcap.proofs.Told.{IsReadInFront-from_fill, header-refused, header-taken}
 use Rattle.scr_pcap.proofs.reader.Reader.begin.Goals as goal
