@@ -1,9 +1,11 @@
 -- What is wrong with a rest, from what was read of it.
-use Rattle.std.proofs.Common.{◌≡◌, ◌≢◌, ◌⊎◌, ℕ, ◌+◌, ◌≤◌, ◌<◌, false, List, [], ◌++◌, length, ◌==◌, nat_lt, refl, sym, ap, ◌∙◌, inl, inr, arith, rules, tests}
+use Rattle.std.proofs.Common.{◌≡◌, ◌≢◌, ◌⊎◌, ℕ, ◌+◌, ◌≤◌, ◌<◌, true, false, List, [], ◌++◌, length, ◌==◌, nat_lt, refl, sym, ap, ◌∙◌, inl, inr, arith, rules, tests}
+use Rattle.std.specs.Prelude.{Option, Some, None, IfSome}
+use Rattle.std.specs.Io.KnownBytes.{Consumes}
 use Rattle.std.proofs.lemmas.Bool.{cases_lt}
 use Rattle.std.proofs.lemmas.List.{length-append, append-nil}
 use Rattle.scr_pcap.specs.declared.error.CaptureError.{CaptureError}
-use Rattle.scr_pcap.specs.declared.error.CaptureError.TheVariants.{ShortRecord}
+use Rattle.scr_pcap.specs.declared.error.CaptureError.TheVariants.{ShortRecord, TooMany}
 use Rattle.scr_pcap.specs.declared.format.Format.{Format}
 use Rattle.scr_pcap.specs.Records.{RECORDS, CAPTURED, NoRecord, IsFaultyRest, captured_in, rest_fault}
 use Rattle.scr_pcap.proofs.FirstBytes.{captured_in-append, rest_fault-append}
@@ -61,4 +63,19 @@ IsFaultyRest-from_cut format taken header content sixteen within few cut =
       more = λ none. let e : length (header ++ content) ≡ 0 = ap length none in omega arith;
       greatest = inr (NoRecord-from_cut format (header ++ content) (omega arith));
       first_test = sym (rest_fault-append format taken header content enough ∙ rw (few_taken, whole_header, not_long) refl);
+    }
+
+-- a byte behind the last record that is taken
+pub IsFaultyRest-from_byte : (format : Format) (taken : ℕ) (old new : Option (List ℕ)) (first : List ℕ) → taken ≡ RECORDS → 0 < length first
+    → Consumes old new first → IfSome old (λ bytes. IsFaultyRest format taken bytes (TooMany RECORDS))
+unfolding rest_fault
+IsFaultyRest-from_byte format taken None new first all some took = tt
+IsFaultyRest-from_byte format taken (Some bytes) None first all some took = absurd took
+IsFaultyRest-from_byte format taken (Some bytes) (Some rest) first all some took =
+    let e = ap length took ∙ length-append first rest in
+    let full : (taken == RECORDS) ≡ true = search (rules, tests) in
+    record {
+      more = λ none. let z : length bytes ≡ 0 = ap length none in omega arith;
+      greatest = inl all;
+      first_test = rw full refl;
     }

@@ -142,6 +142,9 @@ impl Reader {
         ensures later { S.faults source.old ≤ S.faults source.new }
         ensures fault { result ≡ Err CaptureError.ReadFault → Rose (S.faults source.old) (S.faults source.new) }
     {
+        if self.taken == LIMIT {
+            return self.take_end(source);
+        }
         let mut header = [0; RECORD_HEADER];
         let count = fill(source, &mut header)?;
         if count == 0 {
@@ -158,20 +161,38 @@ impl Reader {
         }))
     }
 
+    // What stands behind the last record that is taken: the end, or a byte, which tells that there are too many.
+    #[cold]
+    #[inline(never)]
+    fn take_end<S: Source>(&self, source: &mut S) -> Result<Option<RecordInfo>, CaptureError>
+        requires { self.now.taken ≡ RECORDS }
+        ensures no_record { IfOk result (λ next. next ≡ None) }
+        ensures end { result ≡ Ok None → IsAtEnd (S.left source.old) × IsAtEnd (S.left source.new) }
+        ensures faulty { IfErr result (λ error. error ≢ CaptureError.ReadFault
+            → IfSome (S.left source.old) (λ bytes. IsFaultyRest self.now.format self.now.taken bytes error)) }
+        ensures named { IfErr result (IsRecordFault self.now.taken) }
+        ensures later { S.faults source.old ≤ S.faults source.new }
+        ensures fault { result ≡ Err CaptureError.ReadFault → Rose (S.faults source.old) (S.faults source.new) }
+    {
+        let mut byte = [0; 1];
+        let count = fill(source, &mut byte)?;
+        if count == 0 {
+            return Ok(None);
+        }
+        Err(CaptureError::TooMany { limit: LIMIT })
+    }
+
     // The captured length in the header of the next record, or the first test that fails.
     #[tactic(auto, unfolding(crate::specs::Records::rest_fault))]
     fn captured(&self, header: &[u8]) -> Result<u32, CaptureError>
+        requires { self.now.taken < RECORDS }
         ensures captured { IfOk result (λ captured.
             (self.now.taken < RECORDS) × (16 ≤ length header.now) × (captured ≡ captured_in self.now.format header.now) × (captured ≤ CAPTURED)) }
         ensures fault { IfErr result (λ error. error ≡ rest_fault self.now.format self.now.taken header.now) }
-        ensures test { OnErr result
-            ((self.now.taken ≡ RECORDS) ⊎ ((length header.now < 16) ⊎ (CAPTURED < captured_in self.now.format header.now))) }
+        ensures test { OnErr result ((length header.now < 16) ⊎ (CAPTURED < captured_in self.now.format header.now)) }
         ensures named { IfErr result (IsRecordFault self.now.taken) }
         ensures told { result ≢ Err CaptureError.ReadFault }
     {
-        if self.taken == LIMIT {
-            return Err(CaptureError::TooMany { limit: LIMIT });
-        }
         if header.len() < RECORD_HEADER {
             return Err(self.short_record());
         }

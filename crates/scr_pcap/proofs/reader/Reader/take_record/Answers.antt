@@ -1,4 +1,4 @@
-use Rattle.std.proofs.Common.{◌<◌, ◌+◌, length, take, ap, ◌∙◌, arith}
+use Rattle.std.proofs.Common.{◌<◌, ◌+◌, length, take, ap, ◌∙◌, arith, inr}
 use Rattle.std.proofs.lemmas.List.{length-take}
 use Rattle.std.proofs.lemmas.Result.{err_from_is_err_and}
 use Rattle.scr_pcap.specs.Records.{time_in}
@@ -14,7 +14,7 @@ returns-in_err-length-clause-faulty g c =
     let some : 0 < length (take c.in_ok-count.count c.fill.new.buf) =
     let count = length-take c.in_ok-count.count c.fill.new.buf in let nonempty = c.if-count-eq0.false in let whole = c.fill.auto.buf in omega arith in
     let p = err_from_is_err_and c.from_residual-in_err-length.result c.from_residual-in_err-length.ensures.1 in
-    rw (p.1, p.2) (λ _. header-fails _ _ _ _ _ _ read some refused.test refused.fault)
+    rw (p.1, p.2) (λ _. header-fails _ _ _ _ _ _ read some (inr refused.test) refused.fault)
 
 pub returns-then-branch-length-clause-faulty : goal.returns-then-branch-length-clause-faulty
 returns-then-branch-length-clause-faulty g c =
