@@ -6,6 +6,8 @@ mod fault_line;
 mod flood;
 mod report;
 mod status;
+#[cfg(test)]
+mod tests;
 mod top;
 mod words;
 
