@@ -7,7 +7,8 @@ use crate::status::{Status, WordCause, WordFault};
 use scr_base::{Batch, Piece, Sink, SinkError};
 use scr_pcap::CaptureError;
 
-/// Writes the line of a status; one that is done has none. At `Err` a front of it is written.
+/// Writes the line of a status, which tells how a run ended; one that is done has none. At `Err` a front of the line is
+/// written: the sink failed, or it wanted memory.
 pub fn write_fault_line<E: Sink>(err: &mut E, status: &Status) -> Result<(), SinkError>
     ensures text { WritesText (E.written err.old) (E.written err.new) result (fault_line status.now) }
     ensures cause { HasSinkCause E.faults E.wants err.old err.new result }

@@ -4,22 +4,22 @@ ghost use Rattle.scr_run.specs.FaultLines.{code_of};
 use scr_base::{OutOfMemory, SinkError};
 use scr_pcap::CaptureError;
 
-/// How a run ended.
+/// How a run ended. Each status but the first has a line, which [`write_fault_line`](crate::write_fault_line) writes.
 #[derive(Clone, Copy, Debug, PartialEq, Eq)]
 pub enum Status {
     /// The capture was read to its end, and the report is written whole.
     Done,
-    /// The words of the command line are refused.
+    /// The words of the command line are refused. The capture is not read.
     Words(WordFault),
-    /// The capture is malformed: its first fault.
+    /// The capture is malformed: its first fault. Nothing is written.
     Capture(CaptureError),
-    /// Reading the capture failed.
+    /// Reading the capture failed. Nothing is written.
     ReadFault,
-    /// Writing the report failed.
+    /// Writing the report failed. A front of it is written.
     WriteFault,
-    /// There was no memory.
+    /// There was no memory. Nothing is written, or a front of the report.
     OutOfMemory,
-    /// The capture has more records than are taken.
+    /// The capture has more records than this, the most that are taken. Nothing is written.
     TooMany { limit: u32 },
 }
 
@@ -38,7 +38,7 @@ pub enum WordCause {
 }
 
 impl Status {
-    /// The exit code of a program that ends so.
+    /// The exit code of a program that ends so: 0 where it is done, else 1 to 6.
     pub fn code(&self) -> u8
         ensures { result ≡ code_of self.now }
     {

@@ -26,7 +26,11 @@ const NOT_BUILT: WordFault = WordFault {
 };
 
 /// All that the program does: it tests the words, reads the capture to its end, lets one core take its packets, and
-/// writes the report to `out`; where that ends otherwise, it writes a line about it to `err`.
+/// writes the report to `out`. Where the run ends otherwise, it writes the line of the status to `err`.
+///
+/// `words` are the arguments behind the program's own name. `capture` is read a piece at a time, in one pass, and not
+/// at all where the words are refused. `out` gains nothing before the capture is read to its end, and from then on the
+/// report, whole at [`Status::Done`] and else a front of it. A failure of `err` changes nothing of the answer.
 pub fn scr_main<S: Source, O: Sink, E: Sink>(
     alloc: Global,
     words: &[Word],
@@ -53,6 +57,10 @@ pub fn scr_main<S: Source, O: Sink, E: Sink>(
         × WritesFront words.now (S.left capture.old) (O.written out.old) (O.written out.new) }
     ensures out_of_memory { result ≡ Status.OutOfMemory → (out.new ≡ out.old) ⊎ WritesFront words.now (S.left capture.old) (O.written out.old) (O.written out.new) }
 
+    // Nothing is written before the capture was read to its end. Where memory ran out later, `out` wanted it.
+    ensures late { (out.new ≡ out.old) ⊎ IsAtEnd (S.left capture.new) }
+    ensures wanting { result ≡ Status.OutOfMemory → (out.new ≡ out.old) ⊎ Rose (O.wants out.old) (O.wants out.new) }
+
     // Over valid words and a valid capture, with no failure of a stream, the report is written.
     ensures complete { (threshold : ℕ) (bytes : List ℕ) (records : List Record) → IsBuilt words.now threshold → S.left capture.old ≡ Some bytes → IsReading bytes (Ok records)
         → (Rose (S.faults capture.old) (S.faults capture.new) → ⊥) → (Rose (O.faults out.old) (O.faults out.new) → ⊥) → IsUnlessOutOfMemory result Status.Done }
@@ -76,6 +84,8 @@ pub fn scr_main<S: Source, O: Sink, E: Sink>(
 fn run<S: Source, O: Sink>(alloc: Global, words: &[Word], capture: &mut S, out: &mut O) -> Status
     ensures ends { Ends S.left S.faults O.written O.faults words.now capture.old capture.new out.old out.new result }
     ensures unbuilt { IsUnbuilt words.now → result ≡ Status.Words not_built }
+    ensures late { (out.new ≡ out.old) ⊎ IsAtEnd (S.left capture.new) }
+    ensures wanting { result ≡ Status.OutOfMemory → (out.new ≡ out.old) ⊎ Rose (O.wants out.old) (O.wants out.new) }
     ensures later_capture { S.faults capture.old ≤ S.faults capture.new }
     ensures later_out { O.faults out.old ≤ O.faults out.new }
     ensures later_out_wants { O.wants out.old ≤ O.wants out.new }

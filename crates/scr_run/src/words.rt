@@ -24,17 +24,8 @@ pub(crate) fn threshold_of(words: &[Word]) -> Option<u32>
 #[cfg(test)]
 mod tests {
     use super::*;
-    use scr_base::OutOfMemory;
-    use std::alloc::Global;
+    use crate::tests::words_of;
     use std::test::Fail;
-
-    fn words_of(alloc: Global, texts: &[&str]) -> Result<Vec<Word>, OutOfMemory> {
-        let mut words = Vec::new(alloc);
-        for text in texts {
-            words.push(Word::of(alloc, text.as_bytes())?)?;
-        }
-        Ok(words)
-    }
 
     #[test]
     fn reads_thresholds(rt: HostRuntime) -> Result<(), Fail> {

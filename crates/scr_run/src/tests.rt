@@ -1,0 +1,344 @@
+//! Runs over captures in memory. Captures, reports and lines are written by hand.
+
+use crate::{Status, WordCause, WordFault, scr_main, write_fault_line};
+use scr_base::{MemSink, MemSource, OutOfMemory, Source, SureSink, SureSource, Word};
+use scr_pcap::{CaptureError, Order};
+use std::alloc::Global;
+use std::ops::Range;
+use std::process::Abort;
+use std::test::Fail;
+
+const MICROSECONDS: &[u8] = &[
+    0xD4, 0xC3, 0xB2, 0xA1, 2, 0, 4, 0, 0, 0, 0, 0, 0, 0, 0, 0, 0, 0, 4, 0, 1, 0, 0, 0,
+];
+
+const BIG_NANOSECONDS: &[u8] = &[
+    0xA1, 0xB2, 0x3C, 0x4D, 0, 2, 0, 4, 0, 0, 0, 0, 0, 0, 0, 0, 0, 4, 0, 0, 0, 0, 0, 1,
+];
+
+/// 10.0.0.1 port 40000 to 10.0.0.2 port 53, over UDP.
+const FRAME: &[u8] = &[
+    0x02, 0, 0, 0, 0, 0x02, 0x02, 0, 0, 0, 0, 0x01, 0x08, 0x00, // Ethernet
+    0x45, 0, 0, 0x1C, 0, 0, 0, 0, 0x40, 17, 0, 0, 10, 0, 0, 1, 10, 0, 0, 2, // IPv4
+    0x9C, 0x40, 0, 53, 0, 8, 0, 0, // UDP
+];
+
+const WORDS: &[&str] = &["run", "program=ddos", "threshold=2"];
+
+/// The reports of no frame, and of one to four.
+const REPORTS: [&str; 5] = [
+    "frames 0 delivered 0 kept 0\n\
+     core 0 delivered 0 carried 0 recovered 0 skipped 0\n\
+     flows 0\n\
+     verdict PASS 0\nverdict DROP 0\nverdict OTHER 0\n",
+    "1 PASS\n\
+     frames 1 delivered 1 kept 1\n\
+     core 0 delivered 1 carried 1 recovered 0 skipped 0\n\
+     flows 1\n\
+     verdict PASS 1\nverdict DROP 0\nverdict OTHER 0\n",
+    "1 PASS\n2 PASS\n\
+     frames 2 delivered 2 kept 2\n\
+     core 0 delivered 2 carried 2 recovered 0 skipped 0\n\
+     flows 1\n\
+     verdict PASS 2\nverdict DROP 0\nverdict OTHER 0\n",
+    "1 PASS\n2 PASS\n3 DROP\n\
+     frames 3 delivered 3 kept 3\n\
+     core 0 delivered 3 carried 3 recovered 0 skipped 0\n\
+     flows 1\n\
+     verdict PASS 2\nverdict DROP 1\nverdict OTHER 0\n",
+    REPORT,
+];
+
+const REPORT: &str = "1 PASS\n2 PASS\n3 DROP\n4 DROP\n\
+     frames 4 delivered 4 kept 4\n\
+     core 0 delivered 4 carried 4 recovered 0 skipped 0\n\
+     flows 1\n\
+     verdict PASS 2\nverdict DROP 2\nverdict OTHER 0\n";
+
+/// A capture of the frame four times, in the byte order of its header, with these captured lengths.
+fn capture(
+    alloc: Global,
+    header: &[u8],
+    order: Order,
+    lengths: [u32; 4],
+) -> Result<Vec<u8>, OutOfMemory> {
+    let mut bytes = Vec::from_slice(alloc, header)?;
+    for (seconds, length) in (1..=4).zip(lengths) {
+        for field in [seconds, 0, length, 42] {
+            let field = match order {
+                Order::Little => u32::to_le_bytes(field),
+                Order::Big => u32::to_be_bytes(field),
+            };
+            bytes.extend_from_slice(&field)?;
+        }
+        bytes.extend_from_slice(FRAME)?;
+    }
+    Ok(bytes)
+}
+
+fn whole_capture(alloc: Global) -> Result<Vec<u8>, OutOfMemory> {
+    capture(alloc, MICROSECONDS, Order::Little, [42; 4])
+}
+
+pub(crate) fn words_of(alloc: Global, texts: &[&str]) -> Result<Vec<Word>, OutOfMemory> {
+    let mut words = Vec::new(alloc);
+    for text in texts {
+        words.push(Word::of(alloc, text.as_bytes())?)?;
+    }
+    Ok(words)
+}
+
+/// How a run ended, and what it wrote.
+#[derive(Drop)]
+struct Ended {
+    status: Status,
+    out: SureSink,
+    err: SureSink,
+}
+
+fn run_over<S: Source>(
+    alloc: Global,
+    texts: &[&str],
+    capture: &mut S,
+) -> Result<Ended, OutOfMemory> {
+    let words = words_of(alloc, texts)?;
+    let mut out = SureSink::new(alloc, usize::MAX);
+    let mut err = SureSink::new(alloc, usize::MAX);
+    let status = scr_main(alloc, &words, capture, &mut out, &mut err);
+    Ok(Ended { status, out, err })
+}
+
+/// Asserts that a run ended so, with this report and this line.
+fn assert_ended(rt: &impl Abort, ended: &Ended, status: Status, out: &str, err: &str) {
+    assert_eq!(rt; ended.status, status);
+    assert_eq!(rt; ended.out.written(), out.as_bytes());
+    assert_eq!(rt; ended.err.written(), err.as_bytes());
+}
+
+#[test]
+fn reports_both_orders_and_units(rt: HostRuntime) -> Result<(), Fail> {
+    for (header, order) in [(MICROSECONDS, Order::Little), (BIG_NANOSECONDS, Order::Big)] {
+        let bytes = capture(rt.alloc(), header, order, [42; 4])?;
+        let ended = run_over(rt.alloc(), WORDS, &mut SureSource::new(bytes, usize::MAX))?;
+        assert_ended(&rt, &ended, Status::Done, REPORT, "");
+    }
+    assert_eq!(rt; REPORT.len(), 161);
+    Ok(())
+}
+
+// Runs over so many of the first bytes of the whole capture.
+fn run_over_front(alloc: Global, length: usize) -> Result<Ended, OutOfMemory> {
+    let whole = whole_capture(alloc)?;
+    let front = whole.get(..length).unwrap_or(&whole);
+    let mut source = SureSource::new(Vec::from_slice(alloc, front)?, 100);
+    run_over(alloc, WORDS, &mut source)
+}
+
+#[test]
+fn reports_whole_records(rt: HostRuntime) -> Result<(), Fail> {
+    for (length, report) in [24, 82, 140, 198, 256].into_iter().zip(REPORTS) {
+        let ended = run_over_front(rt.alloc(), length)?;
+        assert_ended(&rt, &ended, Status::Done, report, "");
+    }
+    Ok(())
+}
+
+#[test]
+fn tells_where_a_capture_is_cut_short(rt: HostRuntime) -> Result<(), Fail> {
+    let short = |number| CaptureError::ShortRecord { number };
+    let cases: [(Range<usize>, CaptureError, &str); 5] = [
+        (
+            0..24,
+            CaptureError::ShortHeader,
+            "scr: header: ShortHeader\n",
+        ),
+        (25..82, short(1), "scr: record 1: ShortRecord\n"),
+        (83..140, short(2), "scr: record 2: ShortRecord\n"),
+        (141..198, short(3), "scr: record 3: ShortRecord\n"),
+        (199..256, short(4), "scr: record 4: ShortRecord\n"),
+    ];
+    for (lengths, error, line) in cases {
+        for length in lengths {
+            let ended = run_over_front(rt.alloc(), length)?;
+            assert_ended(&rt, &ended, Status::Capture(error), "", line);
+        }
+    }
+    Ok(())
+}
+
+#[test]
+fn follows_changed_lengths(rt: HostRuntime) -> Result<(), Fail> {
+    let long = |number, length| CaptureError::LongRecord { number, length };
+    let short = |number| CaptureError::ShortRecord { number };
+    let cases = [
+        (
+            [u32::MAX, 42, 42, 42],
+            long(1, u32::MAX),
+            "scr: record 1: LongRecord 4294967295\n",
+        ),
+        (
+            [262145, 42, 42, 42],
+            long(1, 262145),
+            "scr: record 1: LongRecord 262145\n",
+        ),
+        (
+            [0, 42, 42, 42],
+            long(2, 16777216),
+            "scr: record 2: LongRecord 16777216\n",
+        ),
+        ([42, 42, 42, 43], short(4), "scr: record 4: ShortRecord\n"),
+        ([42, 42, 42, 41], short(5), "scr: record 5: ShortRecord\n"),
+    ];
+    for (lengths, error, line) in cases {
+        let bytes = capture(rt.alloc(), MICROSECONDS, Order::Little, lengths)?;
+        let ended = run_over(rt.alloc(), WORDS, &mut SureSource::new(bytes, 100))?;
+        assert_ended(&rt, &ended, Status::Capture(error), "", line);
+    }
+    Ok(())
+}
+
+#[test]
+fn ends_at_each_failed_read(rt: HostRuntime) -> Result<(), Fail> {
+    let mut failed = 0;
+    for call in 1..100 {
+        let bytes = whole_capture(rt.alloc())?;
+        let mut source = MemSource::new(bytes, 16, vec![in rt.alloc(); call]?);
+        let ended = run_over(rt.alloc(), WORDS, &mut source)?;
+        if ended.status == Status::Done {
+            assert_ended(&rt, &ended, Status::Done, REPORT, "");
+            break;
+        }
+        assert_ended(&rt, &ended, Status::ReadFault, "", "scr: read fault\n");
+        failed = call;
+    }
+    // A read gives at most 16 of the 256 bytes, and one more finds the end.
+    assert!(rt; 17 <= failed && failed < 99);
+    Ok(())
+}
+
+#[test]
+fn ends_at_each_failed_write(rt: HostRuntime) -> Result<(), Fail> {
+    let words = words_of(rt.alloc(), WORDS)?;
+    let mut failed = 0;
+    for call in 1..100 {
+        let mut source = SureSource::new(whole_capture(rt.alloc())?, 100);
+        let mut out = MemSink::new(rt.alloc(), 10, vec![in rt.alloc(); call]?);
+        let mut err = SureSink::new(rt.alloc(), 100);
+        let status = scr_main(rt.alloc(), &words, &mut source, &mut out, &mut err);
+        if status == Status::Done {
+            assert_eq!(rt; out.written(), REPORT.as_bytes());
+            break;
+        }
+        assert_eq!(rt; status, Status::WriteFault);
+        assert!(rt; REPORT.as_bytes().starts_with(out.written()));
+        assert_eq!(rt; err.written(), &b"scr: write fault\n"[..]);
+        failed = call;
+    }
+    // A write takes at most 10 of the 161 bytes.
+    assert!(rt; 17 <= failed && failed < 99);
+    Ok(())
+}
+
+#[test]
+fn keeps_its_status_where_the_line_fails(rt: HostRuntime) -> Result<(), Fail> {
+    let words = words_of(rt.alloc(), WORDS)?;
+    for call in 1..=4 {
+        let mut source = SureSource::new(whole_capture(rt.alloc())?, 100);
+        let mut out = MemSink::new(rt.alloc(), 100, vec![in rt.alloc(); 1]?);
+        let mut err = MemSink::new(rt.alloc(), 10, vec![in rt.alloc(); call]?);
+        let status = scr_main(rt.alloc(), &words, &mut source, &mut out, &mut err);
+        assert_eq!(rt; status, Status::WriteFault);
+        assert!(rt; b"scr: write fault\n".starts_with(err.written()));
+    }
+    Ok(())
+}
+
+#[test]
+fn leaves_the_capture_unread_at_other_words(rt: HostRuntime) -> Result<(), Fail> {
+    let fault = WordFault {
+        word: 1,
+        cause: WordCause::NotBuilt,
+    };
+    let cases: [&[&str]; 6] = [
+        &[],
+        &["walk"],
+        &["run", "program=ddos"],
+        &["run", "program=dns", "threshold=2"],
+        &["run", "program=ddos", "threshold=4294967296"],
+        &["run", "program=ddos", "threshold=2", "cores=2"],
+    ];
+    for texts in cases {
+        let mut source = SureSource::new(whole_capture(rt.alloc())?, 300);
+        let ended = run_over(rt.alloc(), texts, &mut source)?;
+        assert_ended(
+            &rt,
+            &ended,
+            Status::Words(fault),
+            "",
+            "scr: word 1: NotBuilt\n",
+        );
+        assert_eq!(rt; source.read(&mut [0; 300]), Ok(256));
+    }
+    Ok(())
+}
+
+#[test]
+fn tells_each_status(rt: HostRuntime) -> Result<(), Fail> {
+    let fault = WordFault {
+        word: 1,
+        cause: WordCause::NotBuilt,
+    };
+    let long = CaptureError::LongRecord {
+        number: 2,
+        length: 262145,
+    };
+    let cases: [(Status, u8, &str); 12] = [
+        (Status::Done, 0, ""),
+        (Status::Words(fault), 1, "scr: word 1: NotBuilt\n"),
+        (
+            Status::Capture(CaptureError::ShortHeader),
+            2,
+            "scr: header: ShortHeader\n",
+        ),
+        (
+            Status::Capture(CaptureError::Magic),
+            2,
+            "scr: header: Magic\n",
+        ),
+        (
+            Status::Capture(CaptureError::Version),
+            2,
+            "scr: header: Version\n",
+        ),
+        (
+            Status::Capture(CaptureError::LinkType),
+            2,
+            "scr: header: LinkType\n",
+        ),
+        (
+            Status::Capture(CaptureError::ShortRecord { number: 1000000 }),
+            2,
+            "scr: record 1000000: ShortRecord\n",
+        ),
+        (
+            Status::Capture(long),
+            2,
+            "scr: record 2: LongRecord 262145\n",
+        ),
+        (Status::ReadFault, 3, "scr: read fault\n"),
+        (Status::WriteFault, 4, "scr: write fault\n"),
+        (Status::OutOfMemory, 5, "scr: out of memory\n"),
+        (
+            Status::TooMany { limit: 1000000 },
+            6,
+            "scr: more than 1000000 records\n",
+        ),
+    ];
+    for (status, code, line) in cases {
+        let mut err = SureSink::new(rt.alloc(), 100);
+        assert_eq!(rt; write_fault_line(&mut err, &status), Ok(()));
+        assert_eq!(rt; err.written(), line.as_bytes());
+        assert_eq!(rt; status.code(), code);
+    }
+    Ok(())
+}
