@@ -1,6 +1,6 @@
 -- How a run ends: with the report of the capture's one reading, or by a cause.
-use Rattle.std.proofs.Common.{◌≡◌, ℕ, ◌≤◌, List, [], ◌++◌, length, Option, Some, None, Result, Ok, Err, IfSome, refl, sym, ap, ◌∙◌, subst, inl, inr, arith}
-use Rattle.std.specs.Io.KnownBytes.{Appends, IsAtEnd}
+use Rattle.std.proofs.Common.{◌≡◌, ℕ, ◌≤◌, List, length, Option, Some, None, Result, Ok, Err, IfSome, refl, sym, ap, ◌∙◌, subst, inl, inr}
+use Rattle.std.specs.Io.KnownBytes.{Appends}
 use Rattle.scr_base.specs.Causes.{Rose}
 use Rattle.scr_base.specs.Streams.{AppendsPrefix}
 use Rattle.scr_pcap.specs.Records.{Record}

@@ -1,6 +1,6 @@
 -- One packet more for the one-core answer.
-use Rattle.std.proofs.Common.{◌≡◌, ℕ, ◌+◌, List, [], ◌∷◌, ◌++◌, length, map, refl, sym, ap, ◌∙◌, subst, arith, add_assoc}
-use Rattle.std.proofs.lemmas.List.{map_push, length_push, length-map}
+use Rattle.std.proofs.Common.{◌≡◌, ℕ, ◌+◌, List, [], ◌∷◌, ◌++◌, length, map, refl, ap, ◌∙◌, arith}
+use Rattle.std.proofs.lemmas.List.{map_push, length-map}
 use Rattle.scr_base.specs.declared.row.Row.{Row}
 use Rattle.scr_pcap.specs.Records.{Record}
 use Rattle.scr_run.specs.declared.flood.Address.{Address}

@@ -1,11 +1,10 @@
 -- How far one core has come in a capture.
-use Rattle.std.proofs.Common.{◌≡◌, ℕ, ◌+◌, ◌≤◌, List, [], ◌∷◌, ◌++◌, length, drop, Option, Some, Ok, IfSome, refl, sym, ap, ◌∙◌, subst, arith}
+use Rattle.std.proofs.Common.{◌≡◌, ℕ, ◌+◌, List, [], ◌∷◌, ◌++◌, length, drop, Option, Some, Ok, IfSome, sym, ap, ◌∙◌, subst, arith}
 use Rattle.std.proofs.lemmas.List.{length_push}
-use Rattle.std.specs.Io.KnownBytes.{IsAtEnd}
 use Rattle.scr_frame.specs.Fields.{fields}
 use Rattle.scr_pcap.specs.declared.format.Format.{Format}
 use Rattle.scr_pcap.specs.Header.{header_of}
-use Rattle.scr_pcap.specs.Records.{Record, RECORDS, TakesRecord, TakesRecords}
+use Rattle.scr_pcap.specs.Records.{Record, TakesRecord, TakesRecords}
 use Rattle.scr_pcap.proofs.Joining.{TakesRecords-push}
 use Rattle.scr_run.specs.declared.flood.Address.{Address}
 use Rattle.scr_run.specs.declared.report.Given.{Given}

@@ -1,5 +1,5 @@
 -- When each answer of a run comes, and what stands after it. Bytes that a stream doesn't tell are not spoken of.
-use Rattle.std.specs.Prelude.{◌≡◌, ◌⊎◌, ℕ, List, Option, Some, Result, Ok, Err, IfSome}
+use Rattle.std.specs.Prelude.{◌≡◌, ◌⊎◌, ℕ, List, Option, Ok, Err, IfSome}
 use Rattle.std.specs.Io.KnownBytes.{Appends}
 use Rattle.scr_base.specs.Streams.{AppendsPrefix}
 use Rattle.scr_pcap.specs.Records.{Record}

@@ -1,7 +1,6 @@
 -- The one-core answer: one core takes the rows of a capture in order, each once, and gives each packet its verdict.
 use Rattle.std.specs.Prelude.{ℕ, ◌+◌, List, [], ◌∷◌, map}
 use Rattle.scr_base.specs.declared.row.Row.{Row}
-use Rattle.scr_base.specs.declared.row.Verdict.{Verdict}
 use Rattle.scr_frame.specs.Fields.{fields}
 use Rattle.scr_pcap.specs.Records.{Record}
 use Rattle.scr_run.specs.declared.flood.Address.{Address}

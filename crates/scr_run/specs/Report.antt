@@ -1,6 +1,6 @@
 -- The report of a run: a line for each verdict in the order of the packets, and then the counters. Numbers are
 -- decimal, words are parted by one space, and each line ends with a line feed.
-use Rattle.std.specs.Prelude.{◌≡◌, ℕ, ◌+◌, List, [], ◌∷◌, ◌++◌, length, map, codes, decimal, count_by, ◌==◌, slice_index_or}
+use Rattle.std.specs.Prelude.{ℕ, List, [], ◌∷◌, ◌++◌, length, codes, decimal, count_by, ◌==◌, slice_index_or}
 use Rattle.std.specs.List.{flat_map, enumerate_from}
 use Rattle.scr_base.specs.declared.row.Verdict.{Verdict}
 use Rattle.scr_pcap.specs.Records.{Record}

@@ -1,8 +1,8 @@
-use Rattle.std.proofs.Common.{◌≡◌, ℕ, List, [], length, refl, ◌∙◌, ap, arith, sym, subst}
+use Rattle.std.proofs.Common.{◌≡◌, [], length, ◌∙◌, ap, arith, sym}
 use Rattle.scr_pcap.specs.State.{ReaderState}
 use Rattle.scr_pcap.proofs.Joining.{TakesRecords-none}
 use Rattle.scr_run.proofs.OneCore.{length-verdicts_of}
-use Rattle.scr_run.proofs.Progress.{HasTaken, HasTaken-step}
+use Rattle.scr_run.proofs.Progress.{HasTaken-step}
 use Rattle.scr_run.proofs.answer.one_core_answer.Goals as goal
 
 pub loop-core-init : goal.loop-core-init

@@ -1,4 +1,4 @@
-use Rattle.std.proofs.Common.{◌≡◌, ◌≤◌, ◌-◌, vec_len}
+use Rattle.std.proofs.Common.{◌≡◌, ◌≤◌, ◌-◌}
 use Rattle.scr_pcap.specs.declared.reader.Progress.TheVariants.{Reading}
 use Rattle.scr_run.proofs.Progress.{HasTaken}
 use Rattle.scr_run.proofs.answer.one_core_answer.Given as goal

@@ -1,10 +1,10 @@
-use Rattle.std.proofs.Common.{◌≡◌, ℕ, ◌∷◌, [], ◌++◌, List, subst, sym, ap}
+use Rattle.std.proofs.Common.{◌≡◌, ℕ, [], ◌++◌, List, subst, sym}
 use Rattle.std.specs.List.{flat_map, enumerate_from}
 use Rattle.std.proofs.lemmas.List.{append-nil}
 use Rattle.std.proofs.lemmas.Result.{err_from_is_err_and}
 use Rattle.scr_base.specs.Streams.{BatchesText, AppendsPrefix}
 use Rattle.scr_base.proofs.Streams.{BatchesText-then, Passes-stops, AppendsPrefix-longer}
-use Rattle.scr_run.specs.Report.{NAMES, frames_line, core_line, flows_line, total_line, all_kept, counters_text}
+use Rattle.scr_run.specs.Report.{NAMES, frames_line, core_line, flows_line, total_line, all_kept}
 use Rattle.scr_run.proofs.report.put_counters.Goals as goal
 
 pub returns-in_err-put_frames-clause-text : goal.returns-in_err-put_frames-clause-text

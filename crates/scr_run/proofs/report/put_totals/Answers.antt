@@ -1,5 +1,5 @@
 use Rattle.std.proofs.Common.{◌≡◌, ℕ, zero, suc, ◌<◌, [], ◌++◌, get_or, List, refl, subst, arith}
-use Rattle.std.specs.List.{flat_map, enumerate_from}
+use Rattle.std.specs.List.{enumerate_from}
 use Rattle.std.proofs.lemmas.Result.{err_from_is_err_and}
 use Rattle.scr_base.specs.Streams.{AppendsPrefix, Passes}
 use Rattle.scr_base.proofs.Pieces.{Passes-more, Passes-fails}
