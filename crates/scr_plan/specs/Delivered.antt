@@ -24,4 +24,4 @@ delivered_to drops cores frames core n = delivered drops frames n && (core_numbe
 -- the same as a fact
 pub record IsDeliveredTo (drops : List DropRange) (cores frames core n : ℕ) : Type 0 where
   pub is : IsDelivered drops frames n
-  pub core : core_number cores n ≡ core
+  pub its_core : core_number cores n ≡ core
