@@ -28,7 +28,15 @@ struct Tally {
 
 impl Tally {
     // Counts a frame behind the last one: it carries what the last one didn't, as far back as the history goes.
-    fn add(&mut self, frame: u32, h: u32) {
+    fn add(&mut self, frame: u32, h: u32)
+        requires behind { self.old.last < frame }
+        requires few_frames { self.old.frames ≤ self.old.last }
+        requires few_packets { self.old.packets ≤ self.old.last }
+        ensures frames { self.new.frames ≡ self.old.frames + 1 }
+        ensures packets { self.new.packets
+            ≡ self.old.packets + (frame - max self.old.last (first_carried h frame - 1)) }
+        ensures last { self.new.last ≡ frame }
+    {
         let known = self.last.max(carried_from(frame, h) - 1);
         self.frames += 1;
         self.packets += frame - known;
