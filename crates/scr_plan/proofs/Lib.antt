@@ -1,3 +1,4 @@
 pub mod FromOne
 pub mod Packets
 pub mod Tallies
+pub mod Totals

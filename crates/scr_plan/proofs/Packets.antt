@@ -1,5 +1,5 @@
 -- Who is delivered, who carries what, and which packets are kept.
-use Rattle.std.proofs.Common.{◌≡◌, ℕ, ◌+◌, ◌-◌, ◌<◌, ◌≤◌, List, [], Bool, true, false, ◌&&◌, not, max, arith, refl, sym, leb, eqb}
+use Rattle.std.proofs.Common.{◌≡◌, ◌≢◌, ℕ, ◌+◌, ◌-◌, ◌<◌, ◌≤◌, List, [], Bool, true, false, ◌&&◌, not, max, arith, refl, sym, leb, eqb}
 use Rattle.std.specs.List.{list_any, range_with_len}
 use Rattle.std.specs.Bool.{Decides}
 use Rattle.std.proofs.lemmas.Bool.{false_from_ne_true}
@@ -125,3 +125,32 @@ kept-all_dropped drops history frames p dropped =
     let yes = dropped near.0 near.1 near.4 near.2 in
     let no = near.5 in
     cc)
+
+-- a frame that the drop list has is delivered to nobody; another one is delivered, and to one core
+pub delivered-dropped : (drops : List DropRange) (frames n : ℕ) → has_number drops n ≡ true → delivered drops frames n ≡ false
+delivered-dropped drops frames n dropped =
+    false_from_ne_true (delivered drops frames n)
+    (λ yes. let no = ((Decides-delivered drops frames n).0 yes).not_dropped in cc)
+
+pub delivered_to-dropped : (drops : List DropRange) (cores frames core n : ℕ) → has_number drops n ≡ true
+    → delivered_to drops cores frames core n ≡ false
+delivered_to-dropped drops cores frames core n dropped =
+    false_from_ne_true (delivered_to drops cores frames core n)
+    (λ yes. let no = ((Decides-delivered_to drops cores frames core n).0 yes).is.not_dropped in cc)
+
+pub delivered_to-other : (drops : List DropRange) (cores frames core n : ℕ) → core_number cores n ≢ core
+    → delivered_to drops cores frames core n ≡ false
+delivered_to-other drops cores frames core n other =
+    false_from_ne_true (delivered_to drops cores frames core n)
+    (λ yes. other ((Decides-delivered_to drops cores frames core n).0 yes).its_core)
+
+pub delivered-free : (drops : List DropRange) (frames n : ℕ) → 1 ≤ n → n ≤ frames → has_number drops n ≡ false
+    → delivered drops frames n ≡ true
+delivered-free drops frames n from to free =
+    (Decides-delivered drops frames n).1 (record { from = from; to = to; not_dropped = free })
+
+pub delivered_to-free : (drops : List DropRange) (cores frames core n : ℕ) → 1 ≤ n → n ≤ frames → has_number drops n ≡ false
+    → core_number cores n ≡ core → delivered_to drops cores frames core n ≡ true
+delivered_to-free drops cores frames core n from to free own =
+    (Decides-delivered_to drops cores frames core n).1
+    (record { is = record { from = from; to = to; not_dropped = free }; its_core = own })

@@ -1,5 +1,5 @@
 -- Frames counted one after another, with the packets that they carry.
-use Rattle.std.proofs.Common.{◌≡◌, ℕ, suc, zero, ◌+◌, ◌-◌, ◌<◌, ◌≤◌, List, Bool, true, false, cond, ◌&&◌, ◌||◌, not, max, inl, inr, arith, refl, sym, ap, ◌∙◌, length}
+use Rattle.std.proofs.Common.{◌≡◌, ℕ, suc, zero, ◌+◌, ◌-◌, ◌<◌, ◌≤◌, List, Bool, true, false, cond, ◌&&◌, ◌||◌, not, max, inl, inr, arith, refl, sym, ap, subst, ◌∙◌}
 use Rattle.std.specs.List.{list_any, range_with_len, count_by}
 use Rattle.std.proofs.lemmas.Bool.{false_from_ne_true, cases_lt}
 use Rattle.std.proofs.lemmas.Bool.Decides.{nat_tests, Decides-and}
@@ -7,7 +7,7 @@ use Rattle.std.specs.Bool.{Decides}
 use Rattle.scr_plan.specs.Kept.{Carries, carries, some_carries, first_carried}
 use Rattle.scr_plan.specs.Tallies.{IsTally}
 use Rattle.scr_plan.specs.declared.counting.Tally.{Tally}
-use Rattle.scr_plan.proofs.FromOne.{IsSome, IsSome-from_any, any-from_IsSome, count-suc, count-gap}
+use Rattle.scr_plan.proofs.FromOne.{IsSome, IsSome-from_any, any-from_IsSome, any-suc, count-suc, count-gap}
 use Rattle.scr_plan.proofs.Packets.{Decides-carries}
 
 -- a frame that passes a test and carries packet p
@@ -149,8 +149,10 @@ IsTally-counts test history m tally next passes is frames packets last =
     | inr after ↦ some_carries-known test history m tally.last p within (is.at_last (omega arith)) from (omega arith) after
     ] in
     let late = λ (p : ℕ) (above : known < p) (to : p ≤ suc m).
-    (some_carries-new test history m p passes (record { from = omega arith; to = to }),
-     some_carries-unknown test history m tally.last p is.behind (omega arith)) in
+    (let carried : Carries history (suc m) p = record { from = omega arith; to = to } in
+    let both : (wide p ≡ true) × (narrow p ≡ false) =
+    (some_carries-new test history m p passes carried, some_carries-unknown test history m tally.last p is.behind (omega arith)) in
+    both) in
     let same = count-gap wide narrow known (suc m) early late in
     let none : narrow (suc m) ≡ false = some_carries-later test history m (suc m) (omega arith) in
     let frames_before = is.frames in
@@ -166,3 +168,30 @@ IsTally-counts test history m tally next passes is frames packets last =
       at_last = λ some. ap test last ∙ passes;
       behind = λ n above to. absurd (omega arith);
     }
+
+-- the same, where a loop stands at frame f
+pub IsTally-moved : (test : ℕ → Bool) (history m n : ℕ) (tally : Tally) → m ≡ n → IsTally test history m tally → IsTally test history n tally
+IsTally-moved test history m n tally same is = subst (λ (k : ℕ). IsTally test history k tally) same is
+
+pub IsTally-skips_at : (test : ℕ → Bool) (history f : ℕ) (tally : Tally) → 1 ≤ f → test f ≡ false
+    → IsTally test history (f - 1) tally → IsTally test history (f + 1 - 1) tally
+IsTally-skips_at test history f tally from fails is =
+    let here : f ≡ suc (f - 1) = omega arith in
+    IsTally-moved test history (suc (f - 1)) (f + 1 - 1) tally (omega arith)
+    (IsTally-skips test history (f - 1) tally (ap test (sym here) ∙ fails) is)
+
+pub IsTally-counts_at : (test : ℕ → Bool) (history f : ℕ) (tally next : Tally) → 1 ≤ f → test f ≡ true
+    → IsTally test history (f - 1) tally
+    → next.frames ≡ tally.frames + 1
+    → next.packets ≡ tally.packets + (f - max tally.last (first_carried history f - 1))
+    → next.last ≡ f
+    → IsTally test history (f + 1 - 1) next
+IsTally-counts_at test history f tally next from passes is frames packets last =
+    let here : f ≡ suc (f - 1) = omega arith in
+    IsTally-moved test history (suc (f - 1)) (f + 1 - 1) next (omega arith)
+    (IsTally-counts test history (f - 1) tally next (ap test (sym here) ∙ passes) is frames (omega arith) (omega arith))
+
+-- the same tally by another name
+pub IsTally-same : (test : ℕ → Bool) (history m : ℕ) (tally other : Tally) → tally ≡ other → IsTally test history m other
+    → IsTally test history m tally
+IsTally-same test history m tally other same is = subst (λ (it : Tally). IsTally test history m it) (sym same) is

@@ -59,7 +59,7 @@ pub fn counts(drops: &Drops, k: u32, h: u32, t: u32, core: u32) -> CoreCounts
         last: 0,
     };
     let (mut own, mut all) = (none, none);
-    for frame in 1..=t {
+    for frame in 1..t + 1 {
         if drops.has(frame) {
             continue;
         }
