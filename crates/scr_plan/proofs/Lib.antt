@@ -2,3 +2,4 @@ pub mod FromOne
 pub mod Packets
 pub mod Tallies
 pub mod Totals
+pub mod Cuts

@@ -1,6 +1,6 @@
 -- A drop list as text. It is empty, or pieces parted by commas. A piece is `a`, `a-b` or `a-b/s`, where a, b and s are
 -- decimal numbers of any length, with any zeros in front.
-use Rattle.std.specs.Prelude.{◌≡◌, ℕ, ◌+◌, ◌<◌, Bool, ◌&&◌, ◌||◌, not, List, [], ◌∷◌, length, take, sum_by, Result, Ok, Err, IfErr, ◌==◌, nat_lt, nat_le, if◌then◌else◌}
+use Rattle.std.specs.Prelude.{◌≡◌, ℕ, ◌+◌, ◌<◌, Bool, true, ◌&&◌, ◌||◌, not, List, [], ◌∷◌, length, take, sum_by, Result, Ok, Err, IfErr, ◌==◌, nat_lt, nat_le, if◌then◌else◌}
 use Rattle.std.specs.List.{slice_split, list_any, before_first, after_first, slice_index_or}
 use Rattle.std.specs.Result.{IsOk}
 use Rattle.scr_base.specs.Numbers.{is_number, number_of}
@@ -24,6 +24,12 @@ in_front mark text = before_first (λ byte. byte == mark) text
 
 abbrev pub behind : ℕ → List ℕ → List ℕ
 behind mark text = after_first (λ byte. byte == mark) text
+
+-- a text is cut in two at the first of these bytes
+pub record IsCut (mark : ℕ) (text front back : List ℕ) : Type 0 where
+  pub has : has_byte mark text ≡ true
+  pub front_is : front ≡ in_front mark text
+  pub back_is : back ≡ behind mark text
 
 -- the texts of the three numbers of a piece: `a` stands for `a-a`, and `a-b` for `a-b/1`
 pub record Texts : Type 0 where

@@ -1,7 +1,7 @@
-ghost use Rattle.std.specs.Prelude.{◌≡◌, ◌-◌, ◌^◌, ◌<◌, ◌≤◌, min, length, MatchResult, Some, None, if◌then◌else◌};
+ghost use Rattle.std.specs.Prelude.{◌≡◌, ◌-◌, ◌^◌, ◌<◌, ◌≤◌, min, false, length, MatchResult, MatchOption, Some, None, if◌then◌else◌};
 ghost use Rattle.scr_base.specs.Numbers.{is_number, number_of};
 ghost use Rattle.scr_plan.specs.Drops.{IsDropList};
-ghost use Rattle.scr_plan.specs.Spelling.{Spells, RefusedBy, piece_read, numbers_read, texts_of, with_end, has_byte, in_front, behind};
+ghost use Rattle.scr_plan.specs.Spelling.{Spells, RefusedBy, piece_read, numbers_read, texts_of, with_end, has_byte, in_front, behind, IsCut};
 
 use crate::drops::DropRange;
 use scr_base::{NumberError, OutOfMemory, read_number};
@@ -85,7 +85,9 @@ fn read_piece(piece: &[u8], before: usize) -> Result<DropRange, DropCause>
 }
 
 // What stands in front of the first of these bytes, and what stands behind it.
-fn split_once(text: &[u8], mark: u8) -> Option<(&[u8], &[u8])> {
+fn split_once(text: &[u8], mark: u8) -> Option<(&[u8], &[u8])>
+    ensures { MatchOption result (has_byte mark text.now ≡ false) (λ parts. IsCut mark text.now parts.0.now parts.1.now) }
+{
     let at = text.iter().position(|byte| *byte == mark)?;
     Some((&text[..at], &text[at + 1..]))
 }
