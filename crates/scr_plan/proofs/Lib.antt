@@ -3,3 +3,4 @@ pub mod Packets
 pub mod Tallies
 pub mod Totals
 pub mod Cuts
+pub mod Spelled

@@ -44,6 +44,11 @@ pub enum DropError {
 }
 
 impl From<AllocFailed<DropRange>> for DropError {
+    ghost use Rattle.std.specs.Prelude.{◌≡◌};
+    ghost use Rattle.scr_plan.specs.declared.reading.DropError.TheVariants.{OutOfMemory};
+
+    ghost from_gives = { λ _ error. error ≡ OutOfMemory };
+
     fn from(_: AllocFailed<DropRange>) -> Self {
         DropError::OutOfMemory
     }
