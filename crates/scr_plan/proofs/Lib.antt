@@ -4,3 +4,5 @@ pub mod Tallies
 pub mod Totals
 pub mod Cuts
 pub mod Spelled
+pub mod Ranges
+pub mod OneReading

@@ -154,3 +154,28 @@ pub delivered_to-free : (drops : List DropRange) (cores frames core n : ℕ) →
 delivered_to-free drops cores frames core n from to free own =
     (Decides-delivered_to drops cores frames core n).1
     (record { is = record { from = from; to = to; not_dropped = free }; its_core = own })
+
+-- each of the frames up to the history behind a packet that is delivered to a core carries it to that core
+pub carried-near : (drops : List DropRange) (cores history frames core p n : ℕ) → 1 ≤ p → p ≤ n → n ≤ p + history → n ≤ frames
+    → has_number drops n ≡ false → core_number cores n ≡ core → carried drops cores history frames core p ≡ true
+carried-near drops cores history frames core p n one from to within free own =
+    (Decides-carried drops cores history frames core p).1
+    (record {
+      frame = n;
+      is_delivered = record { is = record { from = omega arith; to = within; not_dropped = free }; its_core = own };
+      carries_it = record { from = omega arith; to = from };
+    })
+
+-- where none of these is delivered to the core, none of its frames carries the packet
+pub carried-by_none : (drops : List DropRange) (cores history frames core p : ℕ)
+    → ((n : ℕ) → p ≤ n → n ≤ frames → n ≤ p + history → delivered_to drops cores frames core n ≡ false)
+    → carried drops cores history frames core p ≡ false
+carried-by_none drops cores history frames core p none =
+    false_from_ne_true (carried drops cores history frames core p)
+    (λ yes.
+    let is = (Decides-carried drops cores history frames core p).0 yes in
+    let it = is.is_delivered in
+    let by = is.carries_it in
+    let no = none is.frame by.to it.is.to (omega (arith, by.from)) in
+    let here = (Decides-delivered_to drops cores frames core is.frame).1 it in
+    cc)

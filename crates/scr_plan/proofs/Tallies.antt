@@ -5,10 +5,19 @@ use Rattle.std.proofs.lemmas.Bool.{false_from_ne_true, cases_lt}
 use Rattle.std.proofs.lemmas.Bool.Decides.{nat_tests, Decides-and}
 use Rattle.std.specs.Bool.{Decides}
 use Rattle.scr_plan.specs.Kept.{Carries, carries, some_carries, first_carried}
-use Rattle.scr_plan.specs.Tallies.{IsTally}
 use Rattle.scr_plan.specs.declared.counting.Tally.{Tally}
 use Rattle.scr_plan.proofs.FromOne.{IsSome, IsSome-from_any, any-from_IsSome, any-suc, count-suc, count-gap}
 use Rattle.scr_plan.proofs.Packets.{Decides-carries}
+
+-- a tally of those of the frames 1 to m that pass a test
+pub record IsTally (test : ℕ → Bool) (history m : ℕ) (tally : Tally) : Type 0 where
+  pub frames : tally.frames ≡ count_by test (range_with_len 1 m)
+  pub packets : tally.packets ≡ count_by (λ p. some_carries test history m p) (range_with_len 1 m)
+  pub few_frames : tally.frames ≤ tally.last
+  pub few_packets : tally.packets ≤ tally.last
+  pub last : tally.last ≤ m
+  pub at_last : 0 < tally.last → test tally.last ≡ true
+  pub behind : (n : ℕ) → tally.last < n → n ≤ m → test n ≡ false
 
 -- a frame that passes a test and carries packet p
 record IsCarrier (test : ℕ → Bool) (history m p : ℕ) : Type 0 where

@@ -9,7 +9,7 @@ use Rattle.scr_plan.specs.declared.counting.Tally.{Tally}
 use Rattle.scr_plan.specs.Delivered.{delivered, delivered_to}
 use Rattle.scr_plan.specs.Kept.{kept, carried}
 use Rattle.scr_plan.specs.Counts.{counts_of, kept_count}
-use Rattle.scr_plan.specs.Tallies.{IsTally}
+use Rattle.scr_plan.proofs.Tallies.{IsTally}
 use Rattle.scr_plan.proofs.FromOne.{count-without, count-not}
 use Rattle.scr_plan.proofs.Packets.{kept-carried}
 

@@ -3,6 +3,5 @@ pub mod Spelling
 pub mod Delivered
 pub mod Kept
 pub mod Counts
-pub mod Tallies
 pub mod Plan
 pub mod FinalEntry

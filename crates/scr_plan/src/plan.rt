@@ -1,6 +1,8 @@
 ghost use Rattle.std.specs.Prelude.{◌≡◌, ◌≤◌, length};
-ghost use Rattle.scr_plan.specs.Plan.{Plan, IsPlan};
+ghost use Rattle.scr_plan.specs.Plan.{Plan, IsPlan, carries_to};
+ghost use Rattle.scr_plan.specs.FinalEntry.{final_entry};
 
+use crate::carrying::core_of;
 use crate::drops::Drops;
 use scr_base::Row;
 use std::marker::Model;
@@ -84,5 +86,36 @@ impl RunPlan {
         ensures ranges { IsPlan self.now }
     {
         &self.drops
+    }
+
+    /// Whether a frame that is delivered to this core carries packet p.
+    pub fn carries(&self, core: u32, p: u32) -> bool
+        requires a_packet { 1 ≤ p }
+        requires of_the_run { p ≤ length self.now.rows }
+        ensures answer { result ≡ carries_to self.now core p }
+        ensures ranges { IsPlan self.now }
+    {
+        let last = (self.rows.len() as u32).min(p + self.history);
+        for frame in p..last + 1 {
+            if core_of(frame, self.cores) == core && !self.drops.has(frame) {
+                return true;
+            }
+        }
+        false
+    }
+
+    /// The row of packet p, where a frame that is delivered to this core carries it. Else the packet is lost to the
+    /// core, which then has to ask the others.
+    pub fn final_entry(&self, core: u32, p: u32) -> Option<Row>
+        requires a_packet { 1 ≤ p }
+        requires of_the_run { p ≤ length self.now.rows }
+        ensures entry { result ≡ final_entry self.now core p }
+        ensures ranges { IsPlan self.now }
+    {
+        if self.carries(core, p) {
+            Some(self.rows[p as usize - 1])
+        } else {
+            None
+        }
     }
 }

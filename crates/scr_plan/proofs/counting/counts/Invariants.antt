@@ -1,6 +1,6 @@
 use Rattle.std.proofs.Common.{◌-◌}
 use Rattle.scr_plan.specs.Delivered.{delivered, delivered_to}
-use Rattle.scr_plan.specs.Tallies.{IsTally}
+use Rattle.scr_plan.proofs.Tallies.{IsTally}
 use Rattle.scr_plan.proofs.counting.counts.Given as goal
 
 abbrev pub invariant-loop-frame : goal.invariant-loop-frame
