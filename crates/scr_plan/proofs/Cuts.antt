@@ -1,12 +1,12 @@
 -- A text that is cut in two at the first of some bytes.
-use Rattle.std.proofs.Common.{◌≡◌, ℕ, ◌+◌, ◌-◌, ◌<◌, ◌≤◌, List, length, get_or, take, drop, Bool, true, false, cond, ltb, eqb, Option, Some, None, inl, inr, arith, refl, sym, ap, ◌∙◌}
+use Rattle.std.proofs.Common.{◌≡◌, ℕ, ◌+◌, ◌-◌, List, length, take, drop, Bool, true, false, cond, ltb, eqb, Option, Some, None, inl, inr, arith, refl, sym, ap, ◌∙◌}
 use Rattle.std.specs.List.{list_any, position_or_len}
 use Rattle.std.proofs.lemmas.Bool.{cases_lt}
 use Rattle.std.proofs.lemmas.Bool.Decides.{nat_tests}
 use Rattle.std.proofs.lemmas.List.{take_all, length-drop}
 use Rattle.std.proofs.lemmas.List.Sums.{passes_at_first, fails_before_first}
 use Rattle.std.proofs.lemmas.List.Folds.{list_any_at, list_any_none}
-use Rattle.scr_plan.specs.Spelling.{has_byte, in_front, behind, IsCut}
+use Rattle.scr_plan.specs.Spelling.{has_byte, IsCut}
 
 -- the first place of a byte, as a search tells it
 abbrev pub first_place : ℕ → List ℕ → Option ℕ
@@ -16,14 +16,14 @@ first_place mark text =
 any-by_place : (p : ℕ → Bool) (xs : List ℕ) → list_any p xs ≡ ltb (position_or_len p xs) (length xs)
 any-by_place p xs =
     elim (cases_lt (position_or_len p xs) (length xs)) [
-      inl below ↦ (
-      let here = list_any_at p xs (position_or_len p xs) 0 below (passes_at_first p xs 0 below) in
-      let test : ltb (position_or_len p xs) (length xs) ≡ true = grind (arith, nat_tests) in
-      here ∙ sym test)
-    | inr above ↦ (
-      let none = list_any_none p xs (λ k d within. fails_before_first p xs k d (omega arith)) in
-      let test : ltb (position_or_len p xs) (length xs) ≡ false = grind (arith, nat_tests) in
-      none ∙ sym test)
+      | inl below ↦ (
+          let here = list_any_at p xs (position_or_len p xs) 0 below (passes_at_first p xs 0 below) in
+          let test : ltb (position_or_len p xs) (length xs) ≡ true = grind (arith, nat_tests) in
+          here ∙ sym test)
+      | inr above ↦ (
+          let none = list_any_none p xs (λ k d within. fails_before_first p xs k d (omega arith)) in
+          let test : ltb (position_or_len p xs) (length xs) ≡ false = grind (arith, nat_tests) in
+          none ∙ sym test)
     ]
 
 chosen-some : (b : Bool) (at i : ℕ) → Some at ≡ cond b (Some i) None → (b ≡ true) × (at ≡ i)

@@ -1,9 +1,8 @@
 -- A text spells one drop list, or is refused with one cause at one place.
-use Rattle.std.proofs.Common.{◌≡◌, ℕ, ◌<◌, List, [], ◌∷◌, length, get_or, Result, Ok, Err, inl, inr, arith, sym, ap, ◌∙◌, subst, ◌⊎◌}
+use Rattle.std.proofs.Common.{◌≡◌, ℕ, ◌<◌, List, [], ◌∷◌, get_or, Result, Ok, Err, arith, sym, ap, ◌∙◌}
 use Rattle.std.specs.Result.{IsOk}
-use Rattle.std.proofs.lemmas.Bool.{cases_lt}
 use Rattle.std.proofs.lemmas.List.{same_lists}
-use Rattle.scr_plan.specs.Spelling.{read_at, place_of, Spells, SpellsPieces, IsRefused}
+use Rattle.scr_plan.specs.Spelling.{read_at, place_of, Spells, IsRefused}
 use Rattle.scr_plan.specs.declared.drops.DropRange.{DropRange}
 use Rattle.scr_plan.specs.declared.reading.DropCause.{DropCause}
 
@@ -45,6 +44,7 @@ pub IsRefused-same : (text : List ℕ) (cause other : DropCause) (place elsewher
 IsRefused-same text cause other place elsewhere a b =
     let front = same_piece text cause other place elsewhere a b in
     let back = same_piece text other cause elsewhere place b a in
-    let at : a.faulty ≡ b.faulty = grind (arith, front, back) in
-    (Err-same cause other (read_at text a.faulty) a.why (ap (read_at text) at ∙ b.why),
-     a.where_it_stands ∙ ap (place_of text) at ∙ sym b.where_it_stands)
+    let at : a.faulty ≡ b.faulty = grind (arith, front, back) in (
+      Err-same cause other (read_at text a.faulty) a.why (ap (read_at text) at ∙ b.why),
+      a.where_it_stands ∙ ap (place_of text) at ∙ sym b.where_it_stands,
+    )

@@ -1,5 +1,5 @@
 -- Who is delivered, who carries what, and which packets are kept.
-use Rattle.std.proofs.Common.{◌≡◌, ◌≢◌, ℕ, ◌+◌, ◌-◌, ◌<◌, ◌≤◌, List, [], Bool, true, false, ◌&&◌, not, max, arith, refl, sym, leb, eqb}
+use Rattle.std.proofs.Common.{◌≡◌, ◌≢◌, ℕ, ◌+◌, ◌≤◌, List, [], Bool, true, false, ◌&&◌, arith, refl}
 use Rattle.std.specs.List.{list_any, range_with_len}
 use Rattle.std.specs.Bool.{Decides}
 use Rattle.std.proofs.lemmas.Bool.{false_from_ne_true}
@@ -7,29 +7,32 @@ use Rattle.std.proofs.lemmas.Bool.Decides.{nat_tests, Decides-like, Decides-and}
 use Rattle.scr_plan.specs.declared.drops.DropRange.{DropRange}
 use Rattle.scr_plan.specs.Drops.{has_number}
 use Rattle.scr_plan.specs.Delivered.{IsDelivered, IsDeliveredTo, delivered, delivered_to, core_number}
-use Rattle.scr_plan.specs.Kept.{Carries, IsKept, IsCarried, carries, kept, carried, first_carried}
+use Rattle.scr_plan.specs.Kept.{Carries, IsKept, IsCarried, carries, kept, carried}
 use Rattle.scr_plan.proofs.FromOne.{IsSome, Decides-any}
 
 pub Decides-delivered : (drops : List DropRange) (frames n : ℕ) → Decides (delivered drops frames n) (IsDelivered drops frames n)
 unfolding delivered
-Decides-delivered drops frames n =
-    (λ e. record { from = grind (arith, nat_tests); to = grind (arith, nat_tests); not_dropped = grind (arith, nat_tests) },
-     λ is. let a = is.from in let b = is.to in let d = is.not_dropped in grind (arith, nat_tests))
+Decides-delivered drops frames n = (
+  λ e. record { from = grind (arith, nat_tests); to = grind (arith, nat_tests); not_dropped = grind (arith, nat_tests) },
+  λ is. let a = is.from in let b = is.to in let d = is.not_dropped in grind (arith, nat_tests),
+)
 
 pub Decides-delivered_to : (drops : List DropRange) (cores frames core n : ℕ)
     → Decides (delivered_to drops cores frames core n) (IsDeliveredTo drops cores frames core n)
 unfolding delivered_to
-Decides-delivered_to drops cores frames core n =
-    (λ e. record { is = (Decides-delivered drops frames n).0 (grind (arith, nat_tests)); its_core = grind (arith, nat_tests) },
-     λ is.
-    let a = (Decides-delivered drops frames n).1 is.is in
-    let b = is.its_core in
-    grind (arith, nat_tests))
+Decides-delivered_to drops cores frames core n = (
+  λ e. record { is = (Decides-delivered drops frames n).0 (grind (arith, nat_tests)); its_core = grind (arith, nat_tests) },
+  λ is.
+      let a = (Decides-delivered drops frames n).1 is.is in
+      let b = is.its_core in
+      grind (arith, nat_tests),
+)
 
 pub Decides-carries : (history n p : ℕ) → Decides (carries history n p) (Carries history n p)
-Decides-carries history n p =
-    (λ e. record { from = grind (arith, nat_tests); to = grind (arith, nat_tests) },
-     λ is. let a = is.from in let b = is.to in grind (arith, nat_tests))
+Decides-carries history n p = (
+  λ e. record { from = grind (arith, nat_tests); to = grind (arith, nat_tests) },
+  λ is. let a = is.from in let b = is.to in grind (arith, nat_tests),
+)
 
 pub Decides-kept : (drops : List DropRange) (history frames p : ℕ) → Decides (kept drops history frames p) (IsKept drops history frames p)
 unfolding kept

@@ -1,5 +1,5 @@
 -- The pieces of a drop list, read one after another.
-use Rattle.std.proofs.Common.{◌≡◌, ℕ, suc, zero, ◌+◌, ◌-◌, ◌<◌, ◌≤◌, List, [], ◌∷◌, ◌++◌, length, get_or, take, Bool, true, false, cond, eqb, leb, ltb, not, Result, Ok, Err, inl, inr, arith, refl, sym, ap, ◌∙◌, subst, All}
+use Rattle.std.proofs.Common.{◌≡◌, ℕ, suc, ◌+◌, ◌<◌, ◌≤◌, List, [], ◌∷◌, ◌++◌, length, get_or, Bool, true, false, cond, eqb, leb, ltb, not, Result, Ok, Err, inl, inr, arith, refl, sym, ap, ◌∙◌, subst}
 use Rattle.std.specs.List.{slice_split, onto_first, sum_by}
 use Rattle.std.specs.Result.{IsOk}
 use Rattle.std.proofs.lemmas.Bool.{cases_lt}
@@ -7,11 +7,11 @@ use Rattle.std.proofs.lemmas.Bool.Decides.{nat_tests}
 use Rattle.std.proofs.lemmas.List.{get_or_default, get_or_append_left, get_or_push, length_push}
 use Rattle.std.proofs.lemmas.List.Sums.{sum_by-cons, sum_by_more, sum_by-take-le}
 use Rattle.scr_base.specs.Numbers.{number_of}
-use Rattle.scr_plan.specs.Drops.{IsRange, IsDropList, greatest_number, most_ranges}
-use Rattle.scr_plan.specs.Spelling.{Texts, pieces_of, piece_read, numbers_read, named_range, texts_of, are_numbers, has_zero, has_large, read_at, place_of, Spells, SpellsPieces, IsRefused}
+use Rattle.scr_plan.specs.Drops.{IsRange, IsDropList, most_ranges}
+use Rattle.scr_plan.specs.Spelling.{Texts, pieces_of, piece_read, numbers_read, named_range, texts_of, are_numbers, has_zero, has_large, read_at, place_of, Spells, IsRefused}
 use Rattle.scr_plan.specs.declared.drops.DropRange.{DropRange}
 use Rattle.scr_plan.specs.declared.reading.DropCause.{DropCause}
-use Rattle.scr_plan.specs.declared.reading.DropCause.TheVariants.{Empty, Digit, Zero, TooLarge, Range, Pieces}
+use Rattle.scr_plan.specs.declared.reading.DropCause.TheVariants.{Digit, Zero, TooLarge, Range, Pieces}
 
 -- these ranges are what the first pieces read as
 abbrev pub ReadsTo : List ℕ → List DropRange → Type 0
@@ -29,12 +29,12 @@ pub ReadsTo-more : (text : List ℕ) (ranges : List DropRange) (piece : List ℕ
     → ReadsTo text ranges → ReadsTo text (ranges ++ range ∷ [])
 ReadsTo-more text ranges piece range k count below same read before = λ i d within.
     elim (cases_lt i (length ranges)) [
-      inl front ↦ before i d front ∙ ap Ok (sym (get_or_append_left ranges (range ∷ []) d i front))
-    | inr back ↦ (
-      let at : k ≡ i = omega (arith, length_push ranges range) in
-      let here : read_at text k ≡ Ok range = read_at-piece text piece k below same ∙ sym read in
-      let there : get_or (ranges ++ range ∷ []) i d ≡ range = get_or_push ranges range d i (count ∙ at) in
-      ap (read_at text) (sym at) ∙ here ∙ ap Ok (sym there))
+      | inl front ↦ before i d front ∙ ap Ok (sym (get_or_append_left ranges (range ∷ []) d i front))
+      | inr back ↦ (
+          let at : k ≡ i = omega (arith, length_push ranges range) in
+          let here : read_at text k ≡ Ok range = read_at-piece text piece k below same ∙ sym read in
+          let there : get_or (ranges ++ range ∷ []) i d ≡ range = get_or_push ranges range d i (count ∙ at) in
+          ap (read_at text) (sym at) ∙ here ∙ ap Ok (sym there))
     ]
 
 -- the first piece that is refused
@@ -76,8 +76,8 @@ some_pieces : (p : ℕ → Bool) (xs : List ℕ) → 0 < length (slice_split p x
 some_pieces p [] = omega arith
 some_pieces p (x ∷ xs) =
     elim (p x) as (λ b. 0 < length (cond b ([] ∷ slice_split p xs) (onto_first x (slice_split p xs)))) [
-      true ↦ omega arith
-    | false ↦ length-onto_first x (slice_split p xs)
+      | true ↦ omega arith
+      | false ↦ length-onto_first x (slice_split p xs)
     ]
 
 sum_by-pieces : (p : ℕ → Bool) (xs : List ℕ) → sum_by (λ piece. length piece + 1) (slice_split p xs) ≡ length xs + 1
@@ -86,8 +86,8 @@ sum_by-pieces p (x ∷ xs) =
     let before = sum_by-pieces p xs in
     let longer : length (x ∷ xs) ≡ suc (length xs) = refl in
     elim (p x) as (λ b. sum_by (λ piece. length piece + 1) (cond b ([] ∷ slice_split p xs) (onto_first x (slice_split p xs))) ≡ length (x ∷ xs) + 1) [
-      true ↦ omega (arith, before, longer, sum_by-cons (λ (piece : List ℕ). length piece + 1) [] (slice_split p xs))
-    | false ↦ omega (arith, before, longer, sum_by-onto_first x (slice_split p xs) (some_pieces p xs))
+      | true ↦ omega (arith, before, longer, sum_by-cons (λ (piece : List ℕ). length piece + 1) [] (slice_split p xs))
+      | false ↦ omega (arith, before, longer, sum_by-onto_first x (slice_split p xs) (some_pieces p xs))
     ]
 
 pub place_of-fits : (text : List ℕ) (k : ℕ) → place_of text k ≤ length text + 1

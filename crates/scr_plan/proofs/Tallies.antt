@@ -1,12 +1,11 @@
 -- Frames counted one after another, with the packets that they carry.
-use Rattle.std.proofs.Common.{◌≡◌, ℕ, suc, zero, ◌+◌, ◌-◌, ◌<◌, ◌≤◌, List, Bool, true, false, cond, ◌&&◌, ◌||◌, not, max, inl, inr, arith, refl, sym, ap, subst, ◌∙◌}
-use Rattle.std.specs.List.{list_any, range_with_len, count_by}
+use Rattle.std.proofs.Common.{◌≡◌, ℕ, suc, ◌+◌, ◌-◌, ◌<◌, ◌≤◌, Bool, true, false, ◌&&◌, ◌||◌, max, inl, inr, arith, sym, ap, subst, ◌∙◌}
+use Rattle.std.specs.List.{range_with_len, count_by}
 use Rattle.std.proofs.lemmas.Bool.{false_from_ne_true, cases_lt}
-use Rattle.std.proofs.lemmas.Bool.Decides.{nat_tests, Decides-and}
-use Rattle.std.specs.Bool.{Decides}
+use Rattle.std.proofs.lemmas.Bool.Decides.{nat_tests}
 use Rattle.scr_plan.specs.Kept.{Carries, carries, some_carries, first_carried}
 use Rattle.scr_plan.specs.declared.counting.Tally.{Tally}
-use Rattle.scr_plan.proofs.FromOne.{IsSome, IsSome-from_any, any-from_IsSome, any-suc, count-suc, count-gap}
+use Rattle.scr_plan.proofs.FromOne.{IsSome-from_any, any-from_IsSome, any-suc, count-suc, count-gap}
 use Rattle.scr_plan.proofs.Packets.{Decides-carries}
 
 -- a tally of those of the frames 1 to m that pass a test
@@ -135,10 +134,10 @@ IsTally-skips test history m tally fails is =
       last = omega (arith, is.last);
       at_last = is.at_last;
       behind = λ n above within.
-      elim (cases_lt n (suc m)) [
-        inl before ↦ is.behind n above (omega arith)
-      | inr after ↦ (let e : suc m ≡ n = omega arith in ap test (sym e) ∙ fails)
-      ];
+          elim (cases_lt n (suc m)) [
+            | inl before ↦ is.behind n above (omega arith)
+            | inr after ↦ (let e : suc m ≡ n = omega arith in ap test (sym e) ∙ fails)
+          ];
     }
 
 -- a frame that passes
@@ -154,8 +153,8 @@ IsTally-counts test history m tally next passes is frames packets last =
     let within = is.last in
     let early = λ (p : ℕ) (from : 1 ≤ p) (to : p ≤ known).
     elim (cases_lt p (first_carried history (suc m))) as (λ _. wide p ≡ narrow p) [
-      inl before ↦ some_carries-early test history m p before
-    | inr after ↦ some_carries-known test history m tally.last p within (is.at_last (omega arith)) from (omega arith) after
+      | inl before ↦ some_carries-early test history m p before
+      | inr after ↦ some_carries-known test history m tally.last p within (is.at_last (omega arith)) from (omega arith) after
     ] in
     let late = λ (p : ℕ) (above : known < p) (to : p ≤ suc m).
     (let carried : Carries history (suc m) p = record { from = omega arith; to = to } in

@@ -1,7 +1,7 @@
 -- The counts of a core add up: what its frames carry and what it recovers is what is kept, and what is kept and what is
 -- skipped is all.
-use Rattle.std.proofs.Common.{◌≡◌, ℕ, ◌+◌, ◌-◌, ◌≤◌, List, Bool, true, false, ◌&&◌, not, arith, refl, sym, ap, ◌∙◌}
-use Rattle.std.specs.List.{range_with_len, count_by}
+use Rattle.std.proofs.Common.{◌≡◌, ℕ, ◌+◌, ◌-◌, ◌≤◌, List, arith, ◌∙◌}
+use Rattle.std.specs.List.{range_with_len}
 use Rattle.std.proofs.lemmas.List.FromFn.{length-range_with_len}
 use Rattle.scr_plan.specs.declared.drops.DropRange.{DropRange}
 use Rattle.scr_plan.specs.declared.counting.CoreCounts.{CoreCounts}
@@ -15,7 +15,7 @@ use Rattle.scr_plan.proofs.Packets.{kept-carried}
 
 pub recovered-total : (drops : List DropRange) (cores history frames core : ℕ)
     → (counts_of drops cores history frames core).recovered + (counts_of drops cores history frames core).carried
-        ≡ kept_count drops history frames
+    ≡ kept_count drops history frames
 recovered-total drops cores history frames core =
     count-without (λ p. kept drops history frames p) (λ p. carried drops cores history frames core p) (range_with_len 1 frames)
     (λ p is. kept-carried drops cores history frames core p is)

@@ -1,5 +1,5 @@
 -- Which packets the delivered frames carry. A frame carries its own packet and as many before it as the history says.
-use Rattle.std.specs.Prelude.{◌≡◌, ℕ, ◌-◌, ◌≤◌, max, Bool, ◌&&◌, List, nat_le}
+use Rattle.std.specs.Prelude.{ℕ, ◌-◌, ◌≤◌, max, Bool, ◌&&◌, List, nat_le}
 use Rattle.std.specs.List.{list_any, range_with_len}
 use Rattle.scr_plan.specs.Delivered.{IsDelivered, IsDeliveredTo, delivered, delivered_to}
 use Rattle.scr_plan.specs.declared.drops.DropRange.{DropRange}

@@ -1,6 +1,6 @@
 -- A drop list as text. It is empty, or pieces parted by commas. A piece is `a`, `a-b` or `a-b/s`, where a, b and s are
 -- decimal numbers of any length, with any zeros in front.
-use Rattle.std.specs.Prelude.{◌≡◌, ℕ, ◌+◌, ◌<◌, Bool, true, ◌&&◌, ◌||◌, not, List, [], ◌∷◌, length, take, sum_by, Result, Ok, Err, IfErr, ◌==◌, nat_lt, nat_le, if◌then◌else◌}
+use Rattle.std.specs.Prelude.{◌≡◌, ℕ, ◌+◌, ◌<◌, Bool, true, ◌&&◌, ◌||◌, not, List, [], ◌∷◌, length, take, sum_by, Result, Ok, Err, ◌==◌, nat_lt, nat_le, if◌then◌else◌}
 use Rattle.std.specs.List.{slice_split, list_any, before_first, after_first, slice_index_or}
 use Rattle.std.specs.Result.{IsOk}
 use Rattle.scr_base.specs.Numbers.{is_number, number_of}

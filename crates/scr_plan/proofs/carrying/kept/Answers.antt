@@ -1,4 +1,4 @@
-use Rattle.std.proofs.Common.{◌≡◌, ◌+◌, ◌<◌, ◌≤◌, true, ap, ◌∙◌, inl, inr, sym, arith}
+use Rattle.std.proofs.Common.{◌≡◌, true, ap, ◌∙◌, inl, inr, sym, arith}
 use Rattle.std.proofs.lemmas.Bool.{cases_lt}
 use Rattle.scr_plan.specs.Drops.{has_number}
 use Rattle.scr_plan.proofs.Packets.{kept-near, kept-all_dropped}
@@ -17,6 +17,6 @@ returns-else-not-has c =
     sym (kept-all_dropped c.args.drops.now c.args.h c.args.t c.args.p
     (λ m from within near.
     elim (cases_lt m n) [
-      inl below ↦ c.loop-frame.invariant m from below
-    | inr above ↦ (let same : n ≡ m = omega arith in ap (has_number c.args.drops.now) (sym same) ∙ here)
+      | inl below ↦ c.loop-frame.invariant m from below
+      | inr above ↦ (let same : n ≡ m = omega arith in ap (has_number c.args.drops.now) (sym same) ∙ here)
     ]))

@@ -1,6 +1,5 @@
-use Rattle.std.proofs.Common.{◌≡◌, ◌≤◌, ◌-◌, ℕ, Bool, true, false, sym, ◌∙◌, arith}
+use Rattle.std.proofs.Common.{◌≡◌, ◌≤◌, ◌-◌, true, false, sym, ◌∙◌, arith}
 use Rattle.scr_plan.specs.Drops.{has_number}
-use Rattle.scr_plan.specs.Delivered.{delivered, delivered_to, core_number}
 use Rattle.scr_plan.proofs.Packets.{delivered-dropped, delivered_to-dropped, delivered_to-other, delivered-free, delivered_to-free}
 use Rattle.scr_plan.proofs.Tallies.{IsTally-none, IsTally-moved, IsTally-same, IsTally-skips_at, IsTally-counts_at}
 use Rattle.scr_plan.proofs.Totals.{IsCounted, IsCounted-from_tallies}
@@ -35,15 +34,15 @@ loop-frame-preserved c =
     record {
       own =
           elim c.if-core_of-core.branch [
-            then-core_of-core w ↦ IsTally-same _ _ _ _ _ w.own-is
-            (IsTally-counts_at _ _ f _ _ from
-            (delivered_to-free drops c.args.k c.args.t c.args.core f from within free (sym of_core ∙ w.if-core_of-core.true))
-            c.loop-frame.invariant.own w.add-then-core_of-core.ensures.frames w.add-then-core_of-core.ensures.packets
-            w.add-then-core_of-core.ensures.last)
-          | else-core_of-core w ↦ IsTally-same _ _ _ _ _ w.own-is
-            (IsTally-skips_at _ _ f _ from
-            (delivered_to-other drops c.args.k c.args.t c.args.core f (λ same. w.if-core_of-core.false (of_core ∙ same)))
-            c.loop-frame.invariant.own)
+            | then-core_of-core w ↦ IsTally-same _ _ _ _ _ w.own-is
+                (IsTally-counts_at _ _ f _ _ from
+                (delivered_to-free drops c.args.k c.args.t c.args.core f from within free (sym of_core ∙ w.if-core_of-core.true))
+                c.loop-frame.invariant.own w.add-then-core_of-core.ensures.frames w.add-then-core_of-core.ensures.packets
+                w.add-then-core_of-core.ensures.last)
+            | else-core_of-core w ↦ IsTally-same _ _ _ _ _ w.own-is
+                (IsTally-skips_at _ _ f _ from
+                (delivered_to-other drops c.args.k c.args.t c.args.core f (λ same. w.if-core_of-core.false (of_core ∙ same)))
+                c.loop-frame.invariant.own)
           ];
       all =
           IsTally-counts_at _ _ f _ _ from (delivered-free drops c.args.t f from within free) c.loop-frame.invariant.all

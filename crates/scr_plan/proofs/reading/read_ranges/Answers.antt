@@ -1,5 +1,4 @@
-use Rattle.std.proofs.Common.{◌≡◌, ◌+◌, ◌<◌, ℕ, length, [], ◌∷◌, ◌++◌, rules, tests, sym, ◌∙◌, ap, arith, Bor, List, get_or, eqb}
-use Rattle.std.specs.List.{slice_split}
+use Rattle.std.proofs.Common.{◌≡◌, ◌+◌, ◌<◌, ℕ, length, [], ◌∷◌, ◌++◌, rules, tests, sym, ◌∙◌, ap, arith, List, get_or, eqb}
 use Rattle.std.proofs.lemmas.Iterator.Splits.{YieldsList-from_slice_split}
 use Rattle.std.proofs.lemmas.Iterator.Consumers.{YieldsList-turn, YieldsList-end}
 use Rattle.std.proofs.lemmas.List.{length_push}
@@ -19,7 +18,7 @@ returns-in_err-push-in-Ok c =
 pub returns-in-Err : goal.returns-in-Err
 returns-in-Err c =
     let turn : (length c.loop-piece.yielded < length (pieces_of c.args.text.now))
-        × (c.in-Some.piece.now ≡ get_or (pieces_of c.args.text.now) (length c.loop-piece.yielded) c.in-Some.piece.now) =
+    × (c.in-Some.piece.now ≡ get_or (pieces_of c.args.text.now) (length c.loop-piece.yielded) c.in-Some.piece.now) =
     YieldsList-turn
     (YieldsList-from_slice_split {s = c.into_iter-piece-iterator.result} _ (λ byte. eqb byte 44) c.args.text.now (search rules)
     (search rules) (search rules) (λ x b q k. search (rules, tests)))
@@ -33,7 +32,7 @@ returns-in-Err c =
 pub overflow_add-place-in-loop-piece : goal.overflow_add-place-in-loop-piece
 overflow_add-place-in-loop-piece c =
     let turn : (length c.loop-piece.yielded < length (pieces_of c.args.text.now))
-        × (c.in-Some.piece.now ≡ get_or (pieces_of c.args.text.now) (length c.loop-piece.yielded) c.in-Some.piece.now) =
+    × (c.in-Some.piece.now ≡ get_or (pieces_of c.args.text.now) (length c.loop-piece.yielded) c.in-Some.piece.now) =
     YieldsList-turn
     (YieldsList-from_slice_split {s = c.into_iter-piece-iterator.result} _ (λ byte. eqb byte 44) c.args.text.now (search rules)
     (search rules) (search rules) (λ x b q k. search (rules, tests)))
@@ -45,7 +44,7 @@ overflow_add-place-in-loop-piece c =
 pub loop-piece-preserved : goal.loop-piece-preserved
 loop-piece-preserved c =
     let turn : (length c.loop-piece.yielded < length (pieces_of c.args.text.now))
-        × (c.in-Some.piece.now ≡ get_or (pieces_of c.args.text.now) (length c.loop-piece.yielded) c.in-Some.piece.now) =
+    × (c.in-Some.piece.now ≡ get_or (pieces_of c.args.text.now) (length c.loop-piece.yielded) c.in-Some.piece.now) =
     YieldsList-turn
     (YieldsList-from_slice_split {s = c.into_iter-piece-iterator.result} _ (λ byte. eqb byte 44) c.args.text.now (search rules)
     (search rules) (search rules) (λ x b q k. search (rules, tests)))

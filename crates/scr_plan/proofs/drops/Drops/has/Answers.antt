@@ -1,4 +1,4 @@
-use Rattle.std.proofs.Common.{◌≡◌, take, List, Bool, true, false, sym, arith, take_all, ap, ◌∙◌}
+use Rattle.std.proofs.Common.{◌≡◌, take, Bool, true, sym, take_all, ap, ◌∙◌}
 use Rattle.std.specs.List.{list_any}
 use Rattle.std.proofs.lemmas.List.Folds.{list_any_at}
 use Rattle.scr_plan.specs.Drops.{has_number, range_has}

@@ -1,4 +1,4 @@
-use Rattle.std.proofs.Common.{◌≡◌, ◌+◌, ◌<◌, ◌≤◌, ℕ, true, false, subst, ◌∙◌, sym, length, arith, below_more}
+use Rattle.std.proofs.Common.{◌≡◌, ◌+◌, ◌≤◌, ℕ, true, false, subst, ◌∙◌, sym, length, arith, below_more}
 use Rattle.scr_plan.specs.Drops.{has_number}
 use Rattle.scr_plan.specs.Delivered.{core_number}
 use Rattle.scr_plan.specs.Plan.{Plan, carries_to, delivers_to}
@@ -23,11 +23,11 @@ loop-frame-preserved c =
     let here : delivers_to c.args.self.now c.args.core n ≡ false =
     subst (λ (plan : Plan). delivers_to plan c.args.core n ≡ false) c.self.view_is
     (elim c.else-core_of-core.branch [
-      else-core_of-core-via-then-core_of-core+else-not-has w ↦
-      delivered_to-dropped it.drops it.cores (length it.rows.items) c.args.core n (sym w.has.ensures.answer ∙ w.if-not-has.false)
-    | else-core_of-core-via-else-core_of-core w ↦
-      delivered_to-other it.drops it.cores (length it.rows.items) c.args.core n
-      (λ same. w.if-core_of-core.false (c.core_of.ensures ∙ same))
+      | else-core_of-core-via-then-core_of-core+else-not-has w ↦
+          delivered_to-dropped it.drops it.cores (length it.rows.items) c.args.core n (sym w.has.ensures.answer ∙ w.if-not-has.false)
+      | else-core_of-core-via-else-core_of-core w ↦
+          delivered_to-other it.drops it.cores (length it.rows.items) c.args.core n
+          (λ same. w.if-core_of-core.false (c.core_of.ensures ∙ same))
     ]) in
     λ m from below. below_more (λ (k : ℕ). c.args.p ≤ k → delivers_to c.args.self.now c.args.core k ≡ false) n
     (λ k under above. c.loop-frame.invariant k above under) (λ above. here) m below from

@@ -1,4 +1,4 @@
-use Rattle.std.proofs.Common.{◌≡◌, ◌≤◌, ◌<◌, ℕ, length, false}
+use Rattle.std.proofs.Common.{◌≡◌, ◌≤◌, ◌<◌, ℕ, false}
 use Rattle.scr_plan.specs.Plan.{delivers_to}
 use Rattle.scr_plan.proofs.plan.RunPlan.carries.Given as goal
 
