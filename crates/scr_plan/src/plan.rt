@@ -1,0 +1,121 @@
+ghost use Rattle.std.specs.Prelude.{◌≡◌, ◌≤◌, length};
+ghost use Rattle.scr_plan.specs.Plan.{Plan, IsPlan, carries_to};
+ghost use Rattle.scr_plan.specs.FinalEntry.{final_entry};
+
+use crate::carrying::core_of;
+use crate::drops::Drops;
+use scr_base::Row;
+use std::marker::Model;
+
+/// What a run is made of: the rows of its packets, the cores, how many earlier packets a frame carries besides its own,
+/// and the frames that are dropped.
+#[derive(Debug, Drop)]
+pub struct RunPlan {
+    rows: Vec<Row>,
+    cores: u32,
+    history: u32,
+    drops: Drops,
+}
+
+impl Model for RunPlan {
+    ghost Value = { Plan };
+
+    ghost view = { λ plan. record {
+      rows = plan.rows.items;
+      cores = plan.cores;
+      history = plan.history;
+      drops = plan.drops;
+    } };
+
+    ghost invariant = { λ plan. IsPlan (record {
+      rows = plan.rows.items;
+      cores = plan.cores;
+      history = plan.history;
+      drops = plan.drops;
+    }) };
+}
+
+impl RunPlan {
+    /// The plan with these parts. Row 1 stands first.
+    pub fn make(rows: Vec<Row>, cores: u32, history: u32, drops: Drops) -> Self
+        requires few_rows { length rows.items ≤ 1000000 }
+        requires a_core { 1 ≤ cores }
+        requires few_cores { cores ≤ 16 }
+        requires short_history { history ≤ 64 }
+        ensures rows { result.rows ≡ rows.items }
+        ensures cores { result.cores ≡ cores }
+        ensures history { result.history ≡ history }
+        ensures drops { result.drops ≡ drops }
+        ensures ranges { IsPlan result }
+    {
+        RunPlan {
+            rows,
+            cores,
+            history,
+            drops,
+        }
+    }
+
+    /// The rows, from packet 1 on.
+    pub fn rows(&self) -> &[Row]
+        ensures rows { result.now ≡ self.now.rows }
+        ensures ranges { IsPlan self.now }
+    {
+        &self.rows
+    }
+
+    /// How many cores there are.
+    pub fn cores(&self) -> u32
+        ensures cores { result ≡ self.now.cores }
+        ensures ranges { IsPlan self.now }
+    {
+        self.cores
+    }
+
+    /// How many packets before its own a frame carries.
+    pub fn history(&self) -> u32
+        ensures history { result ≡ self.now.history }
+        ensures ranges { IsPlan self.now }
+    {
+        self.history
+    }
+
+    /// The frames that are dropped.
+    pub fn drops(&self) -> &Drops
+        ensures drops { result.now ≡ self.now.drops }
+        ensures ranges { IsPlan self.now }
+    {
+        &self.drops
+    }
+
+    /// Whether a frame that is delivered to this core carries packet p.
+    pub fn carries(&self, core: u32, p: u32) -> bool
+        requires a_packet { 1 ≤ p }
+        requires of_the_run { p ≤ length self.now.rows }
+        ensures answer { result ≡ carries_to self.now core p }
+        ensures ranges { IsPlan self.now }
+    {
+        let last = (self.rows.len() as u32).min(p + self.history);
+        for frame in p..last + 1 {
+            if core_of(frame, self.cores) == core && !self.drops.has(frame) {
+                return true;
+            }
+        }
+        false
+    }
+
+    /// The row of packet p, where a frame that is delivered to this core carries it. Else the packet is lost to the
+    /// core, which then has to ask the others.
+    pub fn final_entry(&self, core: u32, p: u32) -> Option<Row>
+        requires a_packet { 1 ≤ p }
+        requires of_the_run { p ≤ length self.now.rows }
+        ensures entry { result ≡ final_entry self.now core p }
+        ensures ranges { IsPlan self.now }
+    {
+        if self.carries(core, p) {
+            Some(self.rows[p as usize - 1])
+        } else {
+            None
+        }
+    }
+}
