@@ -1,0 +1,3 @@
+pub mod WordsRead
+pub mod RowsRead
+pub mod MessagesRead
