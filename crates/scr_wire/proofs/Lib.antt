@@ -1,3 +1,4 @@
 pub mod WordsRead
 pub mod RowsRead
 pub mod MessagesRead
+pub mod Written

@@ -1,6 +1,7 @@
 -- Messages: what is read is what was written, and what was written is read again.
 use Rattle.std.proofs.Common.{◌≡◌, ℕ, zero, suc, ◌+◌, ◌*◌, ◌^◌, ◌<◌, ◌≤◌, Bool, true, false, cond, List, [], ◌∷◌, ◌++◌, length, get_or, take, drop, All, Option, Some, None, refl, sym, ap, subst, ◌∙◌, append_assoc, arith}
-use Rattle.std.specs.Prelude.{slice_index, IsTrue, not}
+use Rattle.std.specs.Prelude.{slice_index, IsTrue, not, Result, Ok, Err, OnOk, IfOk, IfErr, IsOkAnd}
+use Rattle.scr_wire.specs.declared.error.WireError.{WireError}
 use Rattle.std.proofs.lemmas.Bool.{ltb-false, le-ltb, eqb-true}
 use Rattle.std.proofs.lemmas.Bool.Decides.{nat_tests}
 use Rattle.std.proofs.Common.{eq-eqb}
@@ -193,10 +194,10 @@ spells_itself bytes fits none =
 record Fields (k : MessageKind) (number count : ℕ) (rest bytes : List ℕ) : Type 0 where
   pub mark : has_mark bytes ≡ true
   pub version : slice_index bytes 2 ≡ 2
-  pub code : slice_index bytes 3 ≡ code_of k
-  pub number : number_in bytes ≡ number
-  pub count : count_in bytes ≡ count
-  pub rest : drop 10 bytes ≡ rest
+  pub code_is : slice_index bytes 3 ≡ code_of k
+  pub number_is : number_in bytes ≡ number
+  pub count_is : count_in bytes ≡ count
+  pub rest_is : drop 10 bytes ≡ rest
   pub len : length bytes ≡ 10 + length rest
 
 fields_again : (k : MessageKind) (number count : ℕ) (rest : List ℕ) → number < 2 ^ 32 → count < 2 ^ 16 → Fields k number count rest (header_bytes k number count ++ rest)
@@ -205,24 +206,24 @@ fields_again k number count rest number_lt count_lt =
     record {
       mark = refl;
       version = refl;
-      code = refl;
-      number = big_number-reads_back 4 number (big_bytes 2 count ++ rest) number_lt;
-      count = big_number-reads_back 2 count rest count_lt;
-      rest = refl;
+      code_is = refl;
+      number_is = big_number-reads_back 4 number (big_bytes 2 count ++ rest) number_lt;
+      count_is = big_number-reads_back 2 count rest count_lt;
+      rest_is = refl;
       len = omega arith;
     }
 
 passes_by_fields : (k : MessageKind) (number count : ℕ) (rest bytes : List ℕ) → Fields k number count rest bytes → allows k number count ≡ true → length rest ≡ 56 * count → Passes bytes
 passes_by_fields k number count rest bytes f allowed len =
-    let count-is = f.count in
+    let counted = f.count_is in
     let all = f.len in
-    let kind-is : kind_with (slice_index bytes 3) ≡ k = ap kind_with f.code ∙ kind_again k in
+    let kind-is : kind_with (slice_index bytes 3) ≡ k = ap kind_with f.code_is ∙ kind_again k in
     record {
       long = omega arith;
       mark = f.mark;
       version = f.version;
-      code = ap is_code f.code ∙ is_code_of k;
-      count = ap (λ (x : MessageKind). allows x (number_in bytes) (count_in bytes)) kind-is ∙ ap (λ (x : ℕ). allows k x (count_in bytes)) f.number ∙ ap (allows k number) f.count ∙ allowed;
+      code = ap is_code f.code_is ∙ is_code_of k;
+      count = ap (λ (x : MessageKind). allows x (number_in bytes) (count_in bytes)) kind-is ∙ ap (λ (x : ℕ). allows k x (count_in bytes)) f.number_is ∙ ap (allows k number) f.count_is ∙ allowed;
       len = omega arith;
     }
 
@@ -236,15 +237,26 @@ one_message_in m bytes s =
     let f : Fields k number (length rows) (rows_bytes rows) bytes =
     subst (Fields k number (length rows) (rows_bytes rows)) (sym s.spelled) (fields_again k number (length rows) (rows_bytes rows) s.has_spelling.number (omega arith)) in
     let p = passes_by_fields k number (length rows) (rows_bytes rows) bytes f s.has_spelling.count (length-rows_bytes rows) in
-    let kind-is : kind_with (slice_index bytes 3) ≡ k = ap kind_with f.code ∙ kind_again k in
+    let kind-is : kind_with (slice_index bytes 3) ≡ k = ap kind_with f.code_is ∙ kind_again k in
     let rows-are : rows_in (count_in bytes) (drop 10 bytes) ≡ rows =
-    ap (λ (x : ℕ). rows_in x (drop 10 bytes)) f.count ∙ ap (rows_in (length rows)) f.rest ∙ rows_again rows (recursion_from_All IsRow rows s.has_spelling.rows) in
+    ap (λ (x : ℕ). rows_in x (drop 10 bytes)) f.count_is ∙ ap (rows_in (length rows)) f.rest_is ∙ rows_again rows (recursion_from_All IsRow rows s.has_spelling.rows) in
     (passed bytes p,
       ap (λ (x : MessageKind). message_of x (number_in bytes) (rows_in (count_in bytes) (drop 10 bytes))) kind-is
-      ∙ ap (λ (x : ℕ). message_of k x (rows_in (count_in bytes) (drop 10 bytes))) f.number
+      ∙ ap (λ (x : ℕ). message_of k x (rows_in (count_in bytes) (drop 10 bytes))) f.number_is
       ∙ ap (message_of k number) rows-are
       ∙ whole_message m)
 
 -- bytes are spelled by one message at most
 pub one_message : (one other : Message) (bytes : List ℕ) → Spells one bytes → Spells other bytes → one ≡ other
 one_message one other bytes s t = sym (one_message_in one bytes s).1 ∙ (one_message_in other bytes t).1
+
+-- ---- what decoding answers
+
+pub is_shown : (r : Result Message WireError) (bytes : List ℕ) → IsBytes bytes → OnOk r (refusal bytes ≡ None) → IfOk r (λ view. view ≡ message_in bytes) → IfOk r (λ view. Spells view bytes)
+is_shown (Ok view) bytes fits none shown = subst (λ (m : Message). Spells m bytes) (sym shown) (spells_itself bytes fits none)
+is_shown (Err error) bytes fits none shown = tt
+
+pub is_spelled : (r : Result Message WireError) (bytes : List ℕ) → IfOk r (λ view. view ≡ message_in bytes) → IfErr r (λ error. refusal bytes ≡ Some error)
+    → (m : Message) → Spells m bytes → IsOkAnd r (λ view. view ≡ m)
+is_spelled (Ok view) bytes shown refused m s = shown ∙ (one_message_in m bytes s).1
+is_spelled (Err error) bytes shown refused m s = let none = (one_message_in m bytes s).0 in absurd cc

@@ -9,12 +9,12 @@ use Rattle.byteorder.specs.Endian.{big_number, big_bytes}
 use Rattle.byteorder.specs.Numbers.{big_from-lt, big_from-take}
 use Rattle.scr_base.specs.declared.row.Row.{Row}
 use Rattle.scr_wire.specs.Spelling.{words, row_bytes, rows_bytes, IsRow}
-use Rattle.scr_wire.specs.Reading.{row_in, rows_in}
+use Rattle.scr_wire.specs.Reading.{word_at, row_in, rows_in}
 use Rattle.scr_wire.proofs.WordsRead.{IsBytes, IsBytes-drop, IsBytes-take, words_in, words_back, words_again}
 
 -- the words of the row in front
 words_of_row_in : (bytes : List ℕ) → words (row_in bytes) ≡ words_in 7 bytes
-unfolding row_in words_in
+unfolding word_at row_in words_in
 words_of_row_in bytes = simp drop-drop refl
 
 -- a row by its words
@@ -41,7 +41,7 @@ row_back bytes le fits = ap (λ (x : List ℕ). flat_map (big_bytes 8) x ++ drop
 
 -- the row that stands in bytes has words of 64 bits
 pub row_in-fits : (bytes : List ℕ) → IsBytes bytes → IsRow (row_in bytes)
-unfolding row_in IsRow
+unfolding word_at row_in IsRow
 row_in-fits bytes fits =
     let word = λ (place : ℕ). big_from-lt 0 8 (drop place bytes) (IsBytes-drop place bytes fits) in
     (big_from-lt 0 8 bytes fits, (word 8, (word 16, (word 24, (word 32, (word 40, (word 48, tt)))))))

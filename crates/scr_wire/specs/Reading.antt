@@ -8,16 +8,20 @@ use Rattle.scr_wire.specs.declared.message.MessageKind.{MessageKind}
 use Rattle.scr_wire.specs.declared.message.MessageKind.TheVariants as kind
 use Rattle.scr_wire.specs.Kinds.{kind_with}
 
+-- the word in the eight bytes from a place on
+unfoldable pub word_at : (place : ℕ) → List ℕ → ℕ
+word_at place bytes = big_number 8 (drop place bytes)
+
 -- the row in the first 56 bytes
 unfoldable pub row_in : List ℕ → Row
 row_in bytes = record {
-  w0 = big_number 8 bytes;
-  w1 = big_number 8 (drop 8 bytes);
-  w2 = big_number 8 (drop 16 bytes);
-  w3 = big_number 8 (drop 24 bytes);
-  w4 = big_number 8 (drop 32 bytes);
-  w5 = big_number 8 (drop 40 bytes);
-  w6 = big_number 8 (drop 48 bytes);
+  w0 = word_at 0 bytes;
+  w1 = word_at 8 bytes;
+  w2 = word_at 16 bytes;
+  w3 = word_at 24 bytes;
+  w4 = word_at 32 bytes;
+  w5 = word_at 40 bytes;
+  w6 = word_at 48 bytes;
 }
 
 -- so many rows, one after the other

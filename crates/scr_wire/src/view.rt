@@ -1,7 +1,7 @@
 ghost use Rattle.std.specs.Prelude.{◌≡◌, ◌≤◌, ◌<◌, ◌+◌, ◌*◌, drop, Some, None, length, OnOk, IfOk, IsOkAnd, IfErr, slice_get};
 ghost use Rattle.scr_wire.specs.Spelling.{kind_of, number_of, rows_of, Spells};
 ghost use Rattle.scr_wire.specs.Refusals.{refusal};
-ghost use Rattle.scr_wire.specs.Reading.{row_in, message_in};
+ghost use Rattle.scr_wire.specs.Reading.{word_at, row_in, message_in};
 ghost use Rattle.scr_wire.specs.declared.message.Message.{Message};
 
 use crate::error::WireError;
@@ -34,20 +34,28 @@ impl<'a> Model for WireView<'a> {
     ghost invariant = { λ view. IsTrue (allows view.kind view.number view.count) × (length view.rows.now ≡ 56 * view.count) };
 }
 
+// The word at a place.
+#[tactic(auto, unfolding(crate::specs::Reading::word_at))]
+fn word_at(bytes: &[u8], place: usize) -> u64
+    requires { place + 8 ≤ length bytes.now }
+    ensures { result ≡ word_at place bytes.now }
+{
+    BigEndian::read_u64(&bytes[place..])
+}
+
 // The row that stands in front.
-#[tactic(auto, unfolding(crate::specs::Reading::row_in))]
 fn row_in(bytes: &[u8]) -> Row
     requires { 56 ≤ length bytes.now }
     ensures { result ≡ row_in bytes.now }
 {
     Row {
-        w0: BigEndian::read_u64(bytes),
-        w1: BigEndian::read_u64(&bytes[8..]),
-        w2: BigEndian::read_u64(&bytes[16..]),
-        w3: BigEndian::read_u64(&bytes[24..]),
-        w4: BigEndian::read_u64(&bytes[32..]),
-        w5: BigEndian::read_u64(&bytes[40..]),
-        w6: BigEndian::read_u64(&bytes[48..]),
+        w0: word_at(bytes, 0),
+        w1: word_at(bytes, 8),
+        w2: word_at(bytes, 16),
+        w3: word_at(bytes, 24),
+        w4: word_at(bytes, 32),
+        w5: word_at(bytes, 40),
+        w6: word_at(bytes, 48),
     }
 }
 

@@ -1,4 +1,6 @@
 ghost use Rattle.std.specs.Prelude.{◌≡◌, ◌≤◌, ◌<◌, ◌^◌, ◌*◌, ◌++◌, length, drop, All};
+ghost use Rattle.std.specs.List.{flat_map};
+ghost use Rattle.byteorder.specs.Endian.{big_bytes};
 ghost use Rattle.scr_wire.specs.Spelling.{header_bytes, row_bytes, rows_bytes, IsRow};
 
 use crate::message::MessageKind;
@@ -28,6 +30,15 @@ pub(crate) fn write_header(out: &mut [u8], kind: MessageKind, number: u32, count
     out[..HEADER].copy_from_slice(&header);
 }
 
+// Writes words to the front.
+fn write_words(out: &mut [u8], words: &[u64])
+    requires { 8 * length words.now ≤ length out.old }
+    ensures written { out.new ≡ flat_map (big_bytes 8) words.now ++ drop (8 * length words.now) out.old }
+    ensures fits { All (λ word. word < 2 ^ 64) words.now }
+{
+    BigEndian::write_u64_into(words, &mut out[..8 * words.len()]);
+}
+
 // Writes a row to the front.
 fn write_row(out: &mut [u8], row: &Row)
     requires { 56 ≤ length out.old }
@@ -35,8 +46,7 @@ fn write_row(out: &mut [u8], row: &Row)
     ensures fits { IsRow row.now }
 {
     let Row { w0, w1, w2, w3, w4, w5, w6 } = *row;
-    let words = [w0, w1, w2, w3, w4, w5, w6];
-    BigEndian::write_u64_into(&words, &mut out[..ROW]);
+    write_words(out, &[w0, w1, w2, w3, w4, w5, w6]);
 }
 
 // Writes rows to the front.

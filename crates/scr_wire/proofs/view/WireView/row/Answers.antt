@@ -1,4 +1,4 @@
-use Rattle.std.proofs.Common.{◌≡◌, ◌<◌, List, length, Some, drop, ap, sym, ◌∙◌, arith}
+use Rattle.std.proofs.Common.{◌≡◌, ℕ, ◌*◌, ◌<◌, List, length, Some, drop, ap, sym, ◌∙◌, arith}
 use Rattle.std.specs.Prelude.{slice_get}
 use Rattle.scr_base.specs.declared.row.Row.{Row}
 use Rattle.scr_wire.specs.Spelling.{rows_of}
@@ -19,4 +19,5 @@ returns c =
     let v = c.self.inside in
     let rows-are : rows_of c.args.self.now ≡ rows_in v.count v.rows.now = rw (← c.self.view_is) (rows_of_message v.kind v.number v.count v.rows.now c.self.invariant.0) in
     let within : c.args.i < v.count = omega (arith, ap length rows-are, length-rows_in v.count v.rows.now) in
-    rw rows-are (slice_get-rows_in v.count c.args.i v.rows.now within ∙ ?)
+    let read : c.row_at.result ≡ row_in (drop (56 * c.args.i) v.rows.now) = c.row_at.ensures ∙ ap (λ (i : ℕ). row_in (drop (56 * i) v.rows.now)) c.from.ensures in
+    rw rows-are (slice_get-rows_in v.count c.args.i v.rows.now within ∙ sym (ap Some read))
