@@ -48,9 +48,9 @@ row_written rows i d start out new lt room len so_far written =
     let whole : take (length out - 56 * i) (drop (56 * i) out) ≡ drop (56 * i) start = take_all (length out - 56 * i) (drop (56 * i) out) (omega (arith, length-drop (56 * i) out)) ∙ back in
     let place : 56 * i + 56 ≡ 56 * (i + 1) = omega arith in
     let behind : drop 56 (take (length out - 56 * i) (drop (56 * i) out)) ≡ rest = ap (drop 56) whole ∙ drop-drop 56 (56 * i) start ∙ ap (λ (n : ℕ). drop n start) place in
-    let nothing : drop (56 * i + (length out - 56 * i)) out ≡ [] = drop_all (56 * i + (length out - 56 * i)) out (omega arith) in
+    let nothing : drop (length out - 56 * i) (drop (56 * i) out) ≡ [] = drop_all (length out - 56 * i) (drop (56 * i) out) (omega (arith, length-drop (56 * i) out)) in
     let new-is : new ≡ row ++ rest = written ∙ ap (λ (x : List ℕ). row ++ x) behind in
-    ap (λ (x : List ℕ). x ++ (new ++ drop (56 * i + (length out - 56 * i)) out)) front
+    ap (λ (x : List ℕ). x ++ (new ++ drop (length out - 56 * i) (drop (56 * i) out))) front
     ∙ ap (λ (x : List ℕ). before ++ (new ++ x)) nothing
     ∙ ap (λ (x : List ℕ). before ++ x) (append-nil new ∙ new-is)
     ∙ sym (append_assoc before row rest)
