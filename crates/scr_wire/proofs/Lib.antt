@@ -2,3 +2,4 @@ pub mod WordsRead
 pub mod RowsRead
 pub mod MessagesRead
 pub mod Written
+pub mod LaneGrows

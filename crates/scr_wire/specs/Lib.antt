@@ -2,3 +2,4 @@ pub mod Kinds
 pub mod Spelling
 pub mod Reading
 pub mod Refusals
+pub mod Lane
