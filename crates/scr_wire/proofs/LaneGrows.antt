@@ -94,28 +94,3 @@ lane_at plan core n j d lt within =
 -- the end stands last
 pub lane_at_end : (plan : Plan) (core : ℕ) (d : Message) → get_or (lane plan core) (length (lane_so_far plan core (frame_count plan))) d ≡ End (frame_count plan)
 lane_at_end plan core d = get_or-append_seam (lane_so_far plan core (frame_count plan)) (End (frame_count plan)) [] d
-
--- ---- what is decided
-
-pub decided-zero : (plan : Plan) (core : ℕ) → decided plan core 0 ≡ 0
-unfolding decided
-decided-zero plan core = refl
-
--- one message more
-pub decided-suc : (plan : Plan) (core m : ℕ) (d : Message) → m < length (lane plan core) → decided plan core (m + 1) ≡ max (decided plan core m) (decided_by plan.history (get_or (lane plan core) m d))
-unfolding decided
-decided-suc plan core m d lt =
-    let decides = decided_by plan.history in
-    let before : List Message = take m (lane plan core) in
-    let last : Message = get_or (lane plan core) m d in
-    ap (decided_by_all plan.history) (take_more (lane plan core) m d lt)
-    ∙ ap (fold max 0) (map-append decides before (last ∷ []))
-    ∙ fold-append max 0 (map decides before) (decides last ∷ [])
-
--- messages that decide nothing above a limit
-all_within : (history limit acc : ℕ) (messages : List Message) → acc ≤ limit → AllByRecursion (λ m. decided_by history m ≤ limit) messages
-    → fold max acc (map (decided_by history) messages) ≤ limit
-all_within history limit acc [] le within = le
-all_within history limit acc (m ∷ ms) le within =
-    let first = within.0 in
-    all_within history limit (max acc (decided_by history m)) ms (omega arith) within.1

@@ -3,3 +3,4 @@ pub mod RowsRead
 pub mod MessagesRead
 pub mod Written
 pub mod LaneGrows
+pub mod Decides
