@@ -66,7 +66,7 @@ Within-so_far plan core zero = subst (Within plan.history 0) (sym (lane_so_far-z
 Within-so_far plan core (suc n) =
     subst (Within plan.history (suc n)) (sym (lane_so_far-suc plan core n))
     (Within-append plan.history (suc n) (lane_so_far plan core n) (added plan core (suc n))
-      (Within-more plan.history n (lane_so_far plan core n) (Within-so_far plan core n)) (Within-added plan core (suc n)))
+    (Within-more plan.history n (lane_so_far plan core n) (Within-so_far plan core n)) (Within-added plan core (suc n)))
 
 Within-lane : (plan : Plan) (core : ℕ) → Within plan.history (frame_count plan) (lane plan core)
 Within-lane plan core =

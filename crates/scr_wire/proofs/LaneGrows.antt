@@ -73,11 +73,12 @@ pub lane_front : (plan : Plan) (core n : ℕ) → n ≤ frame_count plan → (re
 lane_front plan core n le =
     let k = frame_count plan - n in
     let all : frame_count plan ≡ n + k = omega arith in
-    let last : List Message = End (frame_count plan) ∷ [] in
-    (behind plan core n k ++ last,
+    let last : List Message = End (frame_count plan) ∷ [] in (
+      behind plan core n k ++ last,
       ap (λ (x : ℕ). lane_so_far plan core x ++ last) all
-      ∙ ap (λ (x : List Message). x ++ last) (so_far-append plan core n k)
-      ∙ append_assoc (lane_so_far plan core n) (behind plan core n k) last)
+          ∙ ap (λ (x : List Message). x ++ last) (so_far-append plan core n k)
+          ∙ append_assoc (lane_so_far plan core n) (behind plan core n k) last,
+    )
 
 -- the messages that a number adds stand behind those of the numbers before it
 pub lane_at : (plan : Plan) (core n j : ℕ) (d : Message) → n < frame_count plan → j < length (added plan core (suc n))

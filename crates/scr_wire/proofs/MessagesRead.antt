@@ -239,12 +239,13 @@ one_message_in m bytes s =
     let p = passes_by_fields k number (length rows) (rows_bytes rows) bytes f s.has_spelling.count (length-rows_bytes rows) in
     let kind-is : kind_with (slice_index bytes 3) ≡ k = ap kind_with f.code_is ∙ kind_again k in
     let rows-are : rows_in (count_in bytes) (drop 10 bytes) ≡ rows =
-    ap (λ (x : ℕ). rows_in x (drop 10 bytes)) f.count_is ∙ ap (rows_in (length rows)) f.rest_is ∙ rows_again rows (recursion_from_All IsRow rows s.has_spelling.rows) in
-    (passed bytes p,
+    ap (λ (x : ℕ). rows_in x (drop 10 bytes)) f.count_is ∙ ap (rows_in (length rows)) f.rest_is ∙ rows_again rows (recursion_from_All IsRow rows s.has_spelling.rows) in (
+      passed bytes p,
       ap (λ (x : MessageKind). message_of x (number_in bytes) (rows_in (count_in bytes) (drop 10 bytes))) kind-is
-      ∙ ap (λ (x : ℕ). message_of k x (rows_in (count_in bytes) (drop 10 bytes))) f.number_is
-      ∙ ap (message_of k number) rows-are
-      ∙ whole_message m)
+          ∙ ap (λ (x : ℕ). message_of k x (rows_in (count_in bytes) (drop 10 bytes))) f.number_is
+          ∙ ap (message_of k number) rows-are
+          ∙ whole_message m,
+    )
 
 -- bytes are spelled by one message at most
 pub one_message : (one other : Message) (bytes : List ℕ) → Spells one bytes → Spells other bytes → one ≡ other

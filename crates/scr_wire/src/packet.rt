@@ -31,7 +31,14 @@ impl Packet {
 }
 
 // The header and the rows in three pieces, one after the other.
-fn packet_of(alloc: Global, kind: MessageKind, number: u32, front: &[Row], back: &[Row], last: &[Row]) -> Result<Packet, OutOfMemory>
+fn packet_of(
+    alloc: Global,
+    kind: MessageKind,
+    number: u32,
+    front: &[Row],
+    back: &[Row],
+    last: &[Row],
+) -> Result<Packet, OutOfMemory>
     requires { length front.now + length back.now + length last.now ≤ 65 }
     ensures written { IfOk result (λ packet. packet ≡ header_bytes kind number (length front.now + length back.now + length last.now) ++ rows_bytes front.now ++ rows_bytes back.now ++ rows_bytes last.now) }
     ensures fits { IfOk result (λ _. All IsRow front.now × All IsRow back.now × All IsRow last.now) }
@@ -55,7 +62,14 @@ pub fn encode(alloc: Global, message: &Message) -> Result<Packet, OutOfMemory>
 {
     match message {
         Message::Frame { number, rows } => {
-            packet_of(alloc, MessageKind::Frame, *number, rows.as_slice(), &[], &[])
+            packet_of(
+                alloc,
+                MessageKind::Frame,
+                *number,
+                rows.as_slice(),
+                &[],
+                &[],
+            )
         }
         Message::Beacon { number } => packet_of(alloc, MessageKind::Beacon, *number, &[], &[], &[]),
         Message::End { number } => packet_of(alloc, MessageKind::End, *number, &[], &[], &[]),
@@ -63,7 +77,13 @@ pub fn encode(alloc: Global, message: &Message) -> Result<Packet, OutOfMemory>
 }
 
 /// The one spelling of a frame's message, whose rows stand in two pieces and the frame's own behind them.
-pub fn encode_frame(alloc: Global, number: u32, front: &[Row], back: &[Row], last: &Row) -> Result<Packet, OutOfMemory>
+pub fn encode_frame(
+    alloc: Global,
+    number: u32,
+    front: &[Row],
+    back: &[Row],
+    last: &Row,
+) -> Result<Packet, OutOfMemory>
     requires at_most_65 { length front.now + length back.now + 1 ≤ 65 }
     requires at_most_its_number { length front.now + length back.now + 1 ≤ number }
     ensures { IfOk result (Spells (message.Frame number (front.now ++ back.now ++ last.now ∷ []))) }

@@ -26,7 +26,18 @@ pub(crate) fn write_header(out: &mut [u8], kind: MessageKind, number: u32, count
 {
     let [n0, n1, n2, n3] = number.to_be_bytes();
     let [c0, c1] = count.to_be_bytes();
-    let header = [MARK[0], MARK[1], VERSION, kind.code(), n0, n1, n2, n3, c0, c1];
+    let header = [
+        MARK[0],
+        MARK[1],
+        VERSION,
+        kind.code(),
+        n0,
+        n1,
+        n2,
+        n3,
+        c0,
+        c1,
+    ];
     out[..HEADER].copy_from_slice(&header);
 }
 
@@ -45,7 +56,15 @@ fn write_row(out: &mut [u8], row: &Row)
     ensures written { out.new ≡ row_bytes row.now ++ drop 56 out.old }
     ensures fits { IsRow row.now }
 {
-    let Row { w0, w1, w2, w3, w4, w5, w6 } = *row;
+    let Row {
+        w0,
+        w1,
+        w2,
+        w3,
+        w4,
+        w5,
+        w6,
+    } = *row;
     write_words(out, &[w0, w1, w2, w3, w4, w5, w6]);
 }
 
