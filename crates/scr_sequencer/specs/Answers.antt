@@ -1,7 +1,8 @@
 -- What a sequencer answers, by what it keeps, and for a plan whose rows it was given so far.
-use Rattle.std.specs.Prelude.{◌≡◌, ℕ, ◌+◌, ◌%◌, ◌≤◌, Bool, true, false, List, [], ◌∷◌, ◌++◌, length, take, map, Option, Some, None, MatchOption, ◌==◌, if◌then◌else◌}
+use Rattle.std.specs.Prelude.{◌≡◌, ℕ, ◌+◌, ◌%◌, ◌≤◌, Bool, true, false, List, [], ◌∷◌, ◌++◌, length, take, map, Option, Some, None, MatchOption, slice_get, ◌==◌, if◌then◌else◌}
 use Rattle.circular_buffer.specs.Buffer.{keep_last}
 use Rattle.scr_base.specs.declared.row.Row.{Row}
+use Rattle.scr_plan.specs.Drops.{has_number}
 use Rattle.scr_plan.specs.Plan.{Plan, frame_count, delivers}
 use Rattle.scr_plan.specs.Delivered.{core_number}
 use Rattle.scr_wire.specs.declared.message.Message.{Message}
@@ -24,6 +25,11 @@ pub record Follows (plan : Plan) (s : Sequence) : Type 0 where
   pub history : s.history ≡ plan.history
   pub taken : s.taken ≤ frame_count plan
   pub rows : s.rows ≡ keep_last (s.history + 1) (take s.taken plan.rows)
+
+-- this is the row of the next packet of the plan, and whether the plan drops its frame
+pub record IsNext (plan : Plan) (s : Sequence) (row : Row) (dropped : Bool) : Type 0 where
+  pub row_is : slice_get plan.rows s.taken ≡ Some row
+  pub dropped_is : dropped ≡ has_number plan.drops (s.taken + 1)
 
 -- the message of a beacon, where there is one
 abbrev pub beacons_of : Option ℕ → List Message

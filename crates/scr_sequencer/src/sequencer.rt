@@ -1,12 +1,11 @@
-ghost use Rattle.std.specs.Prelude.{◌≡◌, ◌≤◌, ◌<◌, ◌+◌, ◌*◌, [], ◌∷◌, ◌++◌, drop, length, Some, None, IfOk, OnErr, OnOk, slice_get, if◌then◌else◌};
+ghost use Rattle.std.specs.Prelude.{◌≡◌, ◌≤◌, ◌<◌, ◌+◌, ◌*◌, [], ◌∷◌, ◌++◌, drop, length, Some, None, IfOk, OnErr, OnOk, if◌then◌else◌};
 ghost use Rattle.circular_buffer.specs.Buffer.{keep_last};
 ghost use Rattle.scr_plan.specs.Plan.{Plan};
-ghost use Rattle.scr_plan.specs.Drops.{has_number};
 ghost use Rattle.scr_wire.specs.declared.message.Message.TheVariants.{Frame};
 ghost use Rattle.scr_wire.specs.Lane.{has_beacon};
 ghost use Rattle.scr_wire.specs.Spelling.{Spells};
 ghost use Rattle.scr_sequencer.specs.Sequence.{Sequence, IsSequence, begun, after, carried_next};
-ghost use Rattle.scr_sequencer.specs.Answers.{IsAnswer, Follows, Adds};
+ghost use Rattle.scr_sequencer.specs.Answers.{IsAnswer, Follows, IsNext, Adds};
 
 use crate::outgoing::Outgoing;
 use circular_buffer::HeapCircularBuffer;
@@ -107,14 +106,12 @@ impl Sequencer {
         encode_frame(self.alloc, self.taken + 1, front, back, row)
     }
 
-    /// What the next number adds to the lanes: its packet has this row, and its frame may be dropped.
-    pub fn next(&mut self, row: Row, dropped: bool) -> Result<Outgoing, OutOfMemory>
+    // The answer to one more row.
+    fn take(&mut self, row: Row, dropped: bool) -> Result<Outgoing, OutOfMemory>
         requires { self.old.taken < 1000000 }
         ensures answer { IfOk result (IsAnswer self.old row dropped) }
         ensures ok { OnOk result (self.new ≡ after self.old row) }
         ensures err { OnErr result (self.new ≡ self.old) }
-        // What one plan's rows so far and its next row give is what the next number adds to the lanes of that plan.
-        ensures lanes { (plan : Plan) → Follows plan self.old → slice_get plan.rows self.old.taken ≡ Some row → dropped ≡ has_number plan.drops (self.old.taken + 1) → IfOk result (Adds plan (self.old.taken + 1)) × OnOk result (Follows plan self.new) }
     {
         let packet = if dropped {
             None
@@ -129,6 +126,19 @@ impl Sequencer {
         self.rows.push_back(row);
         self.taken += 1;
         Ok(outgoing)
+    }
+
+    /// What the next number adds to the lanes: its packet has this row, and its frame may be dropped. After an error
+    /// nothing has changed.
+    pub fn next(&mut self, row: Row, dropped: bool) -> Result<Outgoing, OutOfMemory>
+        requires { self.old.taken < 1000000 }
+        ensures answer { IfOk result (IsAnswer self.old row dropped) }
+        ensures ok { OnOk result (self.new ≡ after self.old row) }
+        ensures err { OnErr result (self.new ≡ self.old) }
+        // Behind the first rows of a plan, its next row gives what the next number adds to the lanes of that plan.
+        ensures lanes { (plan : Plan) → Follows plan self.old → IsNext plan self.old row dropped → IfOk result (Adds plan (self.old.taken + 1)) × OnOk result (Follows plan self.new) }
+    {
+        self.take(row, dropped)
     }
 
     /// The number of the end, which is how many rows were given.
