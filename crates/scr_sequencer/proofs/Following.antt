@@ -91,8 +91,8 @@ adds_next plan s row dropped out follows next answer =
       beacon = beacon_same s.taken out.beacon answer.beacon;
       core = answer.core ∙ ap (λ (k : ℕ). s.taken % k) follows.cores ∙ ap (λ (n : ℕ). n % plan.cores) number;
       packet =
-      packet_same plan (s.taken + 1) (carried_next s row) dropped out.packet (delivers_next plan s.taken dropped within next.dropped_is)
-      (rows_of_frame plan s row dropped follows next) answer.packet;
+          packet_same plan (s.taken + 1) (carried_next s row) dropped out.packet (delivers_next plan s.taken dropped within next.dropped_is)
+          (rows_of_frame plan s row dropped follows next) answer.packet;
     }
 
 pub next_adds : (s t : Sequence) (row : Row) (dropped : Bool) (r : Result Outgoing OutOfMemory) → IfOk r (IsAnswer s row dropped) → OnOk r (t ≡ after s row)
