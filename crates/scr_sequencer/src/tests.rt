@@ -65,7 +65,7 @@ fn two_cores_and_a_dropped_frame(rt: HostRuntime) -> Result<(), Fail> {
 #[test]
 fn no_beacon_has_the_number_of_the_end(rt: HostRuntime) -> Result<(), Fail> {
     let mut sequencer = Sequencer::make(rt.alloc(), 1, 0)?;
-    for n in 0..256 {
+    for n in 0..256u32 {
         let outgoing = sequencer.next(ROW, false)?;
         assert_eq!(rt; outgoing.beacon, None, "before frame {n}");
         assert!(rt; outgoing.packet.is_some());
@@ -101,7 +101,8 @@ fn frames_carry_the_last_rows_in_order(rt: HostRuntime) -> Result<(), Fail> {
         let count = view.count();
         assert_eq!(rt; u64::from(count), n.min(3));
         for i in 0..count {
-            assert_eq!(rt; view.row(i).w6 + u64::from(count), n + 1 + u64::from(i));
+            let behind = view.row(i).w6.checked_add(u64::from(count));
+            assert_eq!(rt; behind, Some(n + 1 + u64::from(i)));
         }
     }
     Ok(())
