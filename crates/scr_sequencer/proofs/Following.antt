@@ -1,17 +1,15 @@
 -- Behind the first rows of a plan, the answer to its next row is what the next number adds to the lanes.
-use Rattle.std.proofs.Common.{◌≡◌, ℕ, suc, ◌+◌, ◌-◌, ◌%◌, ◌<◌, ◌≤◌, Bool, true, false, cond, not, ◌&&◌, List, [], ◌∷◌, ◌++◌, length, get_or, take, drop, max, Option, Some, None, Result, Ok, Err, refl, sym, ap, subst, ◌∙◌, arith}
+use Rattle.std.proofs.Common.{◌≡◌, ℕ, ◌+◌, ◌-◌, ◌%◌, ◌<◌, ◌≤◌, Bool, true, false, cond, not, List, [], ◌∷◌, ◌++◌, length, take, drop, max, Option, Some, None, Result, Ok, Err, refl, sym, ap, subst, ◌∙◌, arith}
 use Rattle.std.specs.Prelude.{OnOk, IfOk, MatchOption}
 use Rattle.std.proofs.lemmas.Bool.{le-leb}
-use Rattle.std.proofs.lemmas.Bool.Decides.{nat_tests}
 use Rattle.std.proofs.lemmas.List.{length-append, length-drop, length-take-le, take_more, drop-drop, drop-append-le}
 use Rattle.std.proofs.lemmas.Option.{get_or_from_slice_get, slice_get_within}
 use Rattle.circular_buffer.specs.Buffer.{keep_last}
 use Rattle.scr_base.specs.declared.row.Row.{Row}
 use Rattle.scr_base.specs.declared.word.OutOfMemory.{OutOfMemory}
 use Rattle.scr_plan.specs.Drops.{has_number}
-use Rattle.scr_plan.specs.Delivered.{delivered, core_number}
+use Rattle.scr_plan.specs.Delivered.{delivered}
 use Rattle.scr_plan.specs.Plan.{Plan, frame_count, delivers}
-use Rattle.scr_wire.specs.declared.message.Message.{Message}
 use Rattle.scr_wire.specs.declared.message.Message.TheVariants.{Frame, Beacon}
 use Rattle.scr_wire.specs.Spelling.{Spells}
 use Rattle.scr_wire.specs.Lane.{frame, rows_carried, has_beacon, beacon_before}

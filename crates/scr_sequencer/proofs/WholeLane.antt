@@ -1,13 +1,13 @@
 -- The answers for all rows of a plan, in turn, and then the end, spell the lane of each core, message by message.
-use Rattle.std.proofs.Common.{◌≡◌, ℕ, suc, ◌+◌, ◌-◌, ◌^◌, ◌<◌, ◌≤◌, Bool, true, false, cond, ◌&&◌, List, [], ◌∷◌, ◌++◌, length, map, Option, Some, None, refl, sym, ap, subst, ◌∙◌, arith, eqb}
+use Rattle.std.proofs.Common.{◌≡◌, ℕ, ◌+◌, ◌-◌, ◌^◌, ◌<◌, Bool, true, false, cond, List, [], ◌∷◌, ◌++◌, length, map, Option, Some, None, refl, sym, subst, arith, eqb}
 use Rattle.std.specs.Prelude.{MatchOption}
-use Rattle.std.specs.List.{AllZip, AllByRecursion, flat_map, range_with_len}
+use Rattle.std.specs.List.{AllZip, flat_map, range_with_len}
 use Rattle.std.proofs.lemmas.List.Concat.{flat_map-cons}
 use Rattle.std.proofs.lemmas.List.Elements.{All-nil}
 use Rattle.scr_plan.specs.Delivered.{delivered_to, core_number}
-use Rattle.scr_plan.specs.Plan.{Plan, IsPlan, frame_count, delivers, delivers_to}
+use Rattle.scr_plan.specs.Plan.{Plan, IsPlan, frame_count, delivers}
 use Rattle.scr_wire.specs.declared.message.Message.{Message}
-use Rattle.scr_wire.specs.declared.message.Message.TheVariants.{Frame, Beacon, End}
+use Rattle.scr_wire.specs.declared.message.Message.TheVariants.{Beacon, End}
 use Rattle.scr_wire.specs.Spelling.{IsRow, HasSpelling, Spells, spelling}
 use Rattle.scr_wire.specs.Lane.{frame, has_beacon, beacon_before, frame_to, added, lane_so_far, lane}
 use Rattle.scr_sequencer.specs.declared.outgoing.Outgoing.{Outgoing}

@@ -1,12 +1,12 @@
 -- What a sequencer answers, by what it keeps, and for a plan whose rows it was given so far.
-use Rattle.std.specs.Prelude.{◌≡◌, ℕ, ◌+◌, ◌%◌, ◌≤◌, Bool, true, false, List, [], ◌∷◌, ◌++◌, length, take, map, Option, Some, None, MatchOption, slice_get, ◌==◌, if◌then◌else◌}
+use Rattle.std.specs.Prelude.{◌≡◌, ℕ, ◌+◌, ◌%◌, ◌≤◌, Bool, true, false, List, [], ◌∷◌, ◌++◌, take, map, Option, Some, None, MatchOption, slice_get, ◌==◌, if◌then◌else◌}
 use Rattle.circular_buffer.specs.Buffer.{keep_last}
 use Rattle.scr_base.specs.declared.row.Row.{Row}
 use Rattle.scr_plan.specs.Drops.{has_number}
 use Rattle.scr_plan.specs.Plan.{Plan, frame_count, delivers}
 use Rattle.scr_plan.specs.Delivered.{core_number}
 use Rattle.scr_wire.specs.declared.message.Message.{Message}
-use Rattle.scr_wire.specs.declared.message.Message.TheVariants.{Frame, Beacon, End}
+use Rattle.scr_wire.specs.declared.message.Message.TheVariants.{Frame, Beacon}
 use Rattle.scr_wire.specs.Spelling.{Spells, spelling}
 use Rattle.scr_wire.specs.Lane.{frame, has_beacon, beacon_before}
 use Rattle.scr_sequencer.specs.declared.outgoing.Outgoing.{Outgoing}

@@ -2,11 +2,11 @@
 use Rattle.std.proofs.Common.{◌≡◌, ℕ, zero, suc, ◌+◌, ◌-◌, ◌<◌, ◌≤◌, Bool, true, false, cond, List, [], ◌∷◌, ◌++◌, length, get_or, take, map, max, refl, sym, ap, subst, ◌∙◌, arith}
 use Rattle.std.specs.Prelude.{fold}
 use Rattle.std.specs.List.{AllByRecursion}
-use Rattle.std.proofs.lemmas.List.{take_all, take_more, map-append, take-append-drop}
+use Rattle.std.proofs.lemmas.List.{take_all, take_more, map-append}
 use Rattle.std.proofs.lemmas.Grind.{fold-append}
 use Rattle.scr_plan.specs.Plan.{Plan, frame_count, delivers_to}
 use Rattle.scr_wire.specs.declared.message.Message.{Message}
-use Rattle.scr_wire.specs.declared.message.Message.TheVariants.{Frame, Beacon, End}
+use Rattle.scr_wire.specs.declared.message.Message.TheVariants.{Beacon, End}
 use Rattle.scr_wire.specs.Lane.{frame, has_beacon, beacon_before, frame_to, added, lane_so_far, lane, decided_by, decided_by_all, decided}
 use Rattle.scr_wire.proofs.LaneGrows.{lane_so_far-zero, lane_so_far-suc}
 

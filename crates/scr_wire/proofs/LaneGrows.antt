@@ -1,18 +1,15 @@
 -- How a lane grows, number by number, and where its messages stand.
-use Rattle.std.proofs.Common.{◌≡◌, ℕ, zero, suc, ◌+◌, ◌-◌, ◌<◌, ◌≤◌, Bool, true, false, cond, List, [], ◌∷◌, ◌++◌, length, get_or, take, drop, map, max, refl, sym, ap, ◌∙◌, append_assoc, arith, inl, inr}
-use Rattle.std.specs.Prelude.{fold}
-use Rattle.std.specs.List.{flat_map, range_with_len, AllByRecursion}
-use Rattle.std.proofs.lemmas.List.{length-append, append-nil, take_at, take_all, take_more, map-append, get_or-append-add, get_or_append_left}
+use Rattle.std.proofs.Common.{◌≡◌, ℕ, zero, suc, ◌+◌, ◌-◌, ◌<◌, ◌≤◌, Bool, true, false, cond, List, [], ◌∷◌, ◌++◌, length, get_or, refl, ap, ◌∙◌, append_assoc, arith}
+use Rattle.std.specs.List.{flat_map, range_with_len}
+use Rattle.std.proofs.lemmas.List.{length-append, append-nil, get_or-append-add, get_or_append_left}
 use Rattle.std.proofs.Math.Seq.{get_or-append_seam}
-use Rattle.std.proofs.lemmas.List.Concat.{flat_map-cons, get_or-flat_map}
-use Rattle.std.proofs.lemmas.List.FromFn.{length-range_with_len, get_or-range_with_len}
-use Rattle.std.proofs.lemmas.Grind.{flat_map-append, fold-append}
-use Rattle.scr_base.specs.declared.row.Row.{Row}
+use Rattle.std.proofs.lemmas.List.Concat.{flat_map-cons}
+use Rattle.std.proofs.lemmas.Grind.{flat_map-append}
 use Rattle.scr_plan.specs.Plan.{Plan, frame_count, delivers_to}
 use Rattle.scr_plan.proofs.FromOne.{range-suc}
 use Rattle.scr_wire.specs.declared.message.Message.{Message}
-use Rattle.scr_wire.specs.declared.message.Message.TheVariants.{Frame, Beacon, End}
-use Rattle.scr_wire.specs.Lane.{frame, has_beacon, beacon_before, frame_to, added, lane_so_far, lane, decided_by, decided_by_all, decided}
+use Rattle.scr_wire.specs.declared.message.Message.TheVariants.{Beacon, End}
+use Rattle.scr_wire.specs.Lane.{frame, has_beacon, beacon_before, frame_to, added, lane_so_far, lane}
 
 -- no number adds nothing
 pub lane_so_far-zero : (plan : Plan) (core : ℕ) → lane_so_far plan core 0 ≡ []

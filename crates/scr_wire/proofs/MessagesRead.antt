@@ -1,12 +1,12 @@
 -- Messages: what is read is what was written, and what was written is read again.
-use Rattle.std.proofs.Common.{◌≡◌, ℕ, zero, suc, ◌+◌, ◌*◌, ◌^◌, ◌<◌, ◌≤◌, Bool, true, false, cond, List, [], ◌∷◌, ◌++◌, length, get_or, take, drop, All, Option, Some, None, refl, sym, ap, subst, ◌∙◌, append_assoc, arith}
+use Rattle.std.proofs.Common.{◌≡◌, ℕ, ◌+◌, ◌*◌, ◌^◌, ◌<◌, ◌≤◌, Bool, true, false, cond, List, [], ◌∷◌, ◌++◌, length, get_or, drop, All, Option, Some, None, refl, sym, ap, subst, ◌∙◌, arith}
 use Rattle.std.specs.Prelude.{slice_index, IsTrue, not, Result, Ok, Err, OnOk, IfOk, IfErr, IsOkAnd}
 use Rattle.scr_wire.specs.declared.error.WireError.{WireError}
 use Rattle.std.proofs.lemmas.Bool.{ltb-false, le-ltb, eqb-true}
 use Rattle.std.proofs.lemmas.Bool.Decides.{nat_tests}
 use Rattle.std.proofs.Common.{eq-eqb}
-use Rattle.std.proofs.lemmas.List.{length-append, length-drop, nil_from_length, drop-drop, drop_all, append-nil}
-use Rattle.std.proofs.lemmas.List.Elements.{All-nil, recursion_from_All}
+use Rattle.std.proofs.lemmas.List.{length-drop, nil_from_length, drop-drop, drop_all, append-nil}
+use Rattle.std.proofs.lemmas.List.Elements.{recursion_from_All}
 use Rattle.byteorder.specs.Endian.{big_number, big_bytes}
 use Rattle.byteorder.specs.Numbers.{big_from-lt, big_number-reads_back}
 use Rattle.scr_base.specs.declared.row.Row.{Row}
@@ -15,9 +15,9 @@ use Rattle.scr_wire.specs.declared.message.Message.TheVariants.{Frame, Beacon, E
 use Rattle.scr_wire.specs.declared.message.MessageKind.{MessageKind}
 use Rattle.scr_wire.specs.declared.message.MessageKind.TheVariants as kind
 use Rattle.scr_wire.specs.Kinds.{code_of, is_code, kind_with, allows}
-use Rattle.scr_wire.specs.Spelling.{kind_of, number_of, rows_of, header_bytes, rows_bytes, spelling, IsRow, HasSpelling, Spells}
+use Rattle.scr_wire.specs.Spelling.{kind_of, number_of, rows_of, header_bytes, rows_bytes, IsRow, Spells}
 use Rattle.scr_wire.specs.Reading.{rows_in, number_in, count_in, message_of, message_in}
-use Rattle.scr_wire.specs.Refusals.{has_mark, has_count, has_length, refusal}
+use Rattle.scr_wire.specs.Refusals.{has_mark, has_count, refusal}
 use Rattle.scr_wire.proofs.WordsRead.{IsBytes, IsBytes-drop, big_bytes_2, big_bytes_4, number_back}
 use Rattle.scr_wire.proofs.RowsRead.{length-rows_in, length-rows_bytes, rows_again, rows_back, rows_in-fit}
 

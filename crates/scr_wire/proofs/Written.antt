@@ -1,16 +1,15 @@
 -- What is written piece by piece is the whole.
-use Rattle.std.proofs.Common.{◌≡◌, ℕ, suc, ◌+◌, ◌-◌, ◌*◌, ◌<◌, ◌≤◌, List, [], ◌∷◌, ◌++◌, length, get_or, take, drop, refl, sym, ap, ◌∙◌, append_assoc, arith}
-use Rattle.std.proofs.lemmas.List.{length-append, length-drop, length-take, length-take-le, take_all, drop_all, take_at, drop_at, drop-drop, take_more, append-nil}
+use Rattle.std.proofs.Common.{◌≡◌, ℕ, ◌+◌, ◌-◌, ◌*◌, ◌<◌, ◌≤◌, List, [], ◌∷◌, ◌++◌, length, get_or, take, drop, sym, ap, ◌∙◌, append_assoc, arith}
+use Rattle.std.proofs.lemmas.List.{length-drop, length-take, take_all, drop_all, take_at, drop_at, drop-drop, take_more, append-nil}
 use Rattle.std.proofs.lemmas.List.Concat.{flat_map-cons}
 use borrow.Rule.Slice.PartMut.{put_mid}
 use Rattle.std.proofs.lemmas.Grind.{flat_map-append}
-use Rattle.std.specs.List.{flat_map}
 use Rattle.byteorder.specs.Endian.{big_bytes}
 use Rattle.scr_base.specs.declared.row.Row.{Row}
 use Rattle.scr_wire.specs.declared.message.MessageKind.{MessageKind}
 use Rattle.scr_wire.specs.Kinds.{code_of}
 use Rattle.scr_wire.specs.Spelling.{header_bytes, row_bytes, rows_bytes}
-use Rattle.scr_wire.proofs.RowsRead.{length-row_bytes, length-rows_bytes}
+use Rattle.scr_wire.proofs.RowsRead.{length-rows_bytes}
 
 -- a header from the bytes of its fields
 abbrev header_from : ℕ → List ℕ → List ℕ → List ℕ

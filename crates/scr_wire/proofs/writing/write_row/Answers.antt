@@ -1,4 +1,4 @@
-use Rattle.std.proofs.Common.{◌<◌, ◌^◌, List, ℕ, ◌++◌, drop, ap}
+use Rattle.std.proofs.Common.{◌<◌, ◌^◌, ℕ}
 use Rattle.std.proofs.lemmas.List.Elements.{recursion_from_All}
 use Rattle.scr_wire.specs.Spelling.{words, row_bytes, IsRow}
 use Rattle.scr_wire.proofs.writing.write_row.Goals as goal

@@ -1,5 +1,4 @@
 use Rattle.std.proofs.Common.{length, ap, sym, ◌∙◌}
-use Rattle.scr_wire.specs.Spelling.{rows_of}
 use Rattle.scr_wire.proofs.RowsRead.{length-rows_in}
 use Rattle.scr_wire.proofs.MessagesRead.{rows_of_message}
 use Rattle.scr_wire.proofs.view.WireView.count.Goals as goal

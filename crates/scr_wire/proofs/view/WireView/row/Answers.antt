@@ -1,6 +1,4 @@
-use Rattle.std.proofs.Common.{◌≡◌, ℕ, ◌*◌, ◌<◌, List, length, Some, drop, ap, sym, ◌∙◌, arith}
-use Rattle.std.specs.Prelude.{slice_get}
-use Rattle.scr_base.specs.declared.row.Row.{Row}
+use Rattle.std.proofs.Common.{◌≡◌, ℕ, ◌*◌, ◌<◌, length, Some, drop, ap, sym, ◌∙◌, arith}
 use Rattle.scr_wire.specs.Spelling.{rows_of}
 use Rattle.scr_wire.specs.Reading.{rows_in, row_in}
 use Rattle.scr_wire.proofs.RowsRead.{length-rows_in, slice_get-rows_in}
