@@ -1,0 +1,5 @@
+pub mod Folds
+pub mod FlowList
+pub mod FlowTable
+pub mod Kept
+pub mod Rows

@@ -1,0 +1,153 @@
+ghost use Rattle.std.specs.Prelude.{◌≡◌, ◌≤◌, ◌⊎◌, ◌+◌, ◌^◌, ◌<◌, ◌∷◌, [], None, length, Some, true, IfOk, OnOk, OnErr, IsOk, IsSome};
+ghost use Rattle.std.specs.Map.{lookup};
+ghost use Rattle.lru.specs.LruCache.{lru_cache};
+ghost use Rattle.scr_program.specs.FlowList.{set_key};
+
+use lru::LruCache;
+use scr_base::OutOfMemory;
+use std::alloc::Global;
+use std::hash::Hash;
+use std::marker::Model;
+use std::num::NonZeroUsize;
+
+/// A key of a flow table. Equal keys are one key.
+pub trait FlowKey: Copy + Eq + Hash + Drop {
+    ghost is_one: { (a b : Self) → Self.eq a b ≡ true → a ≡ b };
+}
+
+/// A table of the flows that were used last.
+#[derive(Drop)]
+pub struct FlowTable<K: FlowKey, V: Copy + Drop> {
+    // A key without an entry is the ready key: room is kept for it.
+    cache: LruCache<K, Option<V>>,
+    flows: NonZeroUsize,
+    ready: Option<K>,
+}
+
+impl<K: FlowKey, V: Copy + Drop> Model for FlowTable<K, V> {
+    ghost use Rattle.std.specs.NonZero.{non_zero_usize_get};
+    ghost use Rattle.scr_program.specs.FlowTable.{Table, table_code, known};
+    ghost use Rattle.scr_program.specs.Kept.{IsKept};
+
+    ghost Value = { Table K V };
+
+    ghost coded = { table_code K.code V.code };
+
+    ghost view = { λ t. record { flows = non_zero_usize_get t.flows; list = known t.cache.entries; ready = t.ready } };
+
+    ghost invariant = { λ t. IsKept K.eq (non_zero_usize_get t.flows) t.cache t.ready };
+}
+
+impl<K: FlowKey, V: Copy + Drop> FlowTable<K, V> {
+    /// An empty table that holds so many flows at most.
+    pub fn make(alloc: Global, flows: u32) -> Result<Self, OutOfMemory>
+        requires some { 1 ≤ flows }
+        requires few { flows ≤ 2 ^ 16 }
+        ensures { IfOk result (λ table. table ≡ record { flows = flows; list = []; ready = None }) }
+    {
+        let Some(flows) = NonZeroUsize::new(flows as usize) else {
+            return Err(OutOfMemory);
+        };
+        Ok(FlowTable {
+            cache: LruCache::new(alloc, flows)?,
+            flows,
+            ready: None,
+        })
+    }
+
+    /// The entry of a key. The order stays.
+    pub fn look(&self, key: &K) -> Option<V>
+        ensures { result ≡ lookup (K.eq key.now) self.now.list }
+    {
+        self.cache.peek(key).copied().flatten()
+    }
+
+    /// How many flows there are.
+    pub fn len(&self) -> u32
+        ensures len { result ≡ length self.now.list }
+        ensures few { result ≤ self.now.flows }
+    {
+        let pairs = self.cache.len();
+        let flows = if self.cache.cap() == self.flows {
+            pairs
+        } else {
+            pairs - 1
+        };
+        flows as u32
+    }
+
+    /// Gives a key this entry, and makes it the most recently used. A new key takes the room of the last one in a full
+    /// table. No key is ready then. At `Err` the flows are as they were; a key that is there, or ready, meets none.
+    pub fn set(&mut self, key: K, entry: V) -> Result<(), OutOfMemory>
+        ensures set { OnOk result (self.new.list ≡ set_key K.eq self.old.flows self.old.list key entry) }
+        ensures err { OnErr result (self.new.list ≡ self.old.list) }
+        ensures flows { self.new.flows ≡ self.old.flows }
+        ensures ready { self.new.ready ≡ None }
+        ensures known_succeeds { IsSome (lookup (K.eq key) self.old.list) → IsOk result }
+        ensures ready_succeeds { self.old.ready ≡ Some key → IsOk result }
+    {
+        self.forget_other(key);
+        self.cache.put(key, Some(entry))?;
+        self.ready = None;
+        self.cache.resize(self.flows);
+        Ok(())
+    }
+
+    /// Makes a key ready: takes the memory that its `set` may need. The flows stay as they are.
+    pub fn prepare(&mut self, key: K) -> Result<(), OutOfMemory>
+        ensures ok { OnOk result (self.new ≡ record self.old { ready = Some key }) }
+        ensures err { OnErr result (self.new ≡ record self.old { ready = None }) }
+        ensures known_succeeds { IsSome (lookup (K.eq key) self.old.list) → IsOk result }
+        ensures ready_succeeds { self.old.ready ≡ Some key → IsOk result }
+    {
+        self.forget_other(key);
+        if !self.cache.contains(&key) {
+            put_in_front(&mut self.cache, key)?;
+        }
+        self.ready = Some(key);
+        Ok(())
+    }
+
+    // Forgets the ready key, if it is another one than this.
+    fn forget_other(&mut self, key: K)
+        ensures flows { self.new.flows ≡ self.old.flows }
+        ensures list { self.new.list ≡ self.old.list }
+        ensures other { (self.new.ready ≡ None) ⊎ ((self.new.ready ≡ Some key) × (self.old.ready ≡ Some key)) }
+        ensures same { self.old.ready ≡ Some key → self.new.ready ≡ Some key }
+    {
+        if let Some(ready) = self.ready
+            && ready != key
+        {
+            self.forget_ready();
+        }
+    }
+
+    // Forgets the ready key, and gives back the room that was made for it.
+    #[inline(never)]
+    fn forget_ready(&mut self)
+        ensures { self.new ≡ record self.old { ready = None } }
+    {
+        if self.cache.cap() != self.flows {
+            drop(self.cache.pop_mru());
+            self.cache.resize(self.flows);
+        }
+        self.ready = None;
+    }
+}
+
+// Puts a new key without an entry in front of all pairs, with room for one pair more.
+fn put_in_front<K: FlowKey, V: Copy + Drop>(cache: &mut LruCache<K, Option<V>>, key: K) -> Result<(), OutOfMemory>
+    requires new { lookup (K.eq key) cache.old.entries ≡ None }
+    requires fits { length cache.old.entries ≤ cache.old.cap }
+    requires few { cache.old.cap ≤ 2 ^ 16 }
+    ensures put { OnOk result (cache.new ≡ lru_cache ((key, None) ∷ cache.old.entries) (cache.old.cap + 1)) }
+    ensures err { OnErr result (cache.new ≡ cache.old) }
+{
+    let cap = cache.cap();
+    cache.resize(cap.saturating_add(1));
+    if cache.put(key, None).is_err() {
+        cache.resize(cap);
+        return Err(OutOfMemory);
+    }
+    Ok(())
+}
