@@ -1,1 +1,4 @@
+pub mod Folds
 pub mod Held
+pub mod Kept
+pub mod Outcomes

@@ -1,6 +1,7 @@
-ghost use Rattle.std.specs.Prelude.{◌≡◌, ◌≤◌, ◌⊎◌, ◌+◌, ◌^◌, ◌<◌, ◌∷◌, [], None, length, Some, true, IfOk, OnOk, OnErr, IsOk, IsSome};
+ghost use Rattle.std.specs.Prelude.{◌≡◌, ◌≤◌, ◌⊎◌, ◌+◌, ◌^◌, ◌<◌, ◌∷◌, [], None, length, take, Some, true, IfOk, OnOk, OnErr, IsOk, IsSome};
 ghost use Rattle.std.specs.Map.{lookup};
-ghost use Rattle.lru.specs.LruCache.{lru_cache};
+ghost use Rattle.std.specs.NonZero.{non_zero_usize_get};
+ghost use Rattle.lru.specs.LruCache.{lru_cache, put_entries};
 ghost use Rattle.scr_program.specs.FlowList.{set_key};
 
 use lru::LruCache;
@@ -87,10 +88,9 @@ impl<K: FlowKey, V: Copy + Drop> FlowTable<K, V> {
         ensures ready_succeeds { self.old.ready ≡ Some key → IsOk result }
     {
         self.forget_other(key);
-        self.cache.put(key, Some(entry))?;
+        let put = put_within(&mut self.cache, self.flows, key, entry);
         self.ready = None;
-        self.cache.resize(self.flows);
-        Ok(())
+        put
     }
 
     /// Makes a key ready: takes the memory that its `set` may need. The flows stay as they are.
@@ -101,18 +101,16 @@ impl<K: FlowKey, V: Copy + Drop> FlowTable<K, V> {
         ensures ready_succeeds { self.old.ready ≡ Some key → IsOk result }
     {
         self.forget_other(key);
-        if !self.cache.contains(&key) {
-            put_in_front(&mut self.cache, key)?;
-        }
-        self.ready = Some(key);
-        Ok(())
+        let room = make_room(&mut self.cache, key);
+        self.ready = room.is_ok().then_some(key);
+        room
     }
 
     // Forgets the ready key, if it is another one than this.
     fn forget_other(&mut self, key: K)
         ensures flows { self.new.flows ≡ self.old.flows }
         ensures list { self.new.list ≡ self.old.list }
-        ensures other { (self.new.ready ≡ None) ⊎ ((self.new.ready ≡ Some key) × (self.old.ready ≡ Some key)) }
+        ensures other { (self.new.ready ≡ None) ⊎ (self.new.ready ≡ Some key) }
         ensures same { self.old.ready ≡ Some key → self.new.ready ≡ Some key }
     {
         if let Some(ready) = self.ready
@@ -135,14 +133,36 @@ impl<K: FlowKey, V: Copy + Drop> FlowTable<K, V> {
     }
 }
 
-// Puts a new key without an entry in front of all pairs, with room for one pair more.
-fn put_in_front<K: FlowKey, V: Copy + Drop>(cache: &mut LruCache<K, Option<V>>, key: K) -> Result<(), OutOfMemory>
-    requires new { lookup (K.eq key) cache.old.entries ≡ None }
-    requires fits { length cache.old.entries ≤ cache.old.cap }
-    requires few { cache.old.cap ≤ 2 ^ 16 }
-    ensures put { OnOk result (cache.new ≡ lru_cache ((key, None) ∷ cache.old.entries) (cache.old.cap + 1)) }
-    ensures err { OnErr result (cache.new ≡ cache.old) }
+// Puts a pair in front, and then keeps so many pairs at most.
+fn put_within<K: FlowKey, V: Copy + Drop>(
+    cache: &mut LruCache<K, Option<V>>,
+    flows: NonZeroUsize,
+    key: K,
+    entry: V,
+) -> Result<(), OutOfMemory>
+    ensures put { OnOk result (cache.new ≡ lru_cache (take (non_zero_usize_get flows) (put_entries K.eq cache.old key (Some entry))) (non_zero_usize_get flows)) }
+    ensures err { OnErr result ((cache.new ≡ cache.old) × (lookup (K.eq key) cache.old.entries ≡ None)) }
+    ensures succeeds { IsSome (lookup (K.eq key) cache.old.entries) → IsOk result }
 {
+    cache.put(key, Some(entry))?;
+    cache.resize(flows);
+    Ok(())
+}
+
+// Puts a key that isn't there in front of all pairs, without an entry and with room for one pair more.
+fn make_room<K: FlowKey, V: Copy + Drop>(
+    cache: &mut LruCache<K, Option<V>>,
+    key: K,
+) -> Result<(), OutOfMemory>
+    requires fits { length cache.old.entries ≤ cache.old.cap }
+    requires few { cache.old.cap ≤ 2 ^ 17 }
+    ensures there { IsSome (lookup (K.eq key) cache.old.entries) → IsOk result × (cache.new ≡ cache.old) }
+    ensures new { lookup (K.eq key) cache.old.entries ≡ None → OnOk result (cache.new ≡ lru_cache ((key, None) ∷ cache.old.entries) (cache.old.cap + 1)) }
+    ensures err { OnErr result ((cache.new ≡ cache.old) × (lookup (K.eq key) cache.old.entries ≡ None)) }
+{
+    if cache.contains(&key) {
+        return Ok(());
+    }
     let cap = cache.cap();
     cache.resize(cap.saturating_add(1));
     if cache.put(key, None).is_err() {
