@@ -1,5 +1,5 @@
 -- Flows, and the pairs by which a cache holds them.
-use Rattle.std.proofs.Common.{◌≡◌, ℕ, zero, suc, Bool, true, false, List, [], ◌∷◌, take, map, Option, Some, None, refl, sym, ap, subst, ◌∙◌}
+use Rattle.std.proofs.Common.{◌≡◌, ℕ, zero, suc, Bool, true, false, List, [], ◌∷◌, take, Option, Some, None, refl, ap}
 use Rattle.std.specs.Option.{option_map}
 use Rattle.std.specs.Map.{lookup, lookup_entry, remove_entry}
 use Rattle.scr_program.specs.FlowTable.{known, held}

@@ -1,5 +1,5 @@
 -- What the calls of a flow table leave in its cache.
-use Rattle.std.proofs.Common.{◌≡◌, ℕ, zero, suc, ◌+◌, ◌-◌, ◌<◌, ◌≤◌, ◌⊎◌, inl, inr, Bool, true, false, List, [], ◌∷◌, length, take, map, Option, Some, None, IsSome, IfSome, Result, Ok, Err, IsOk, OnOk, OnErr, refl, sym, ap, subst, ◌∙◌, arith}
+use Rattle.std.proofs.Common.{◌≡◌, ℕ, zero, suc, ◌+◌, ◌-◌, ◌<◌, ◌≤◌, ◌⊎◌, inl, inr, Bool, true, false, List, [], ◌∷◌, length, take, Option, Some, None, IsSome, IfSome, Result, Ok, Err, IsOk, OnOk, OnErr, refl, sym, ap, subst, ◌∙◌, arith}
 use Rattle.std.specs.Cmp.{IsEquivalence}
 use Rattle.std.specs.Result.{is_ok}
 use Rattle.std.specs.Option.{option_map, option_flatten}
@@ -10,7 +10,7 @@ use Rattle.lru.specs.LruCache.{LruCache, lru_cache, put_entries}
 use Rattle.lru.proofs.CallerLemmas.{Contains-lookup_entry}
 use Rattle.scr_program.specs.FlowList.{set_key}
 use Rattle.scr_program.specs.FlowTable.{known, held}
-use Rattle.scr_program.specs.Kept.{IsKept, IsPlain, IsRoomy}
+use Rattle.scr_program.specs.Kept.{IsKept, IsPlain}
 use Rattle.scr_program.proofs.Held.{held_pair, known-held, take-held, lookup-held, lookup_entry-held, remove_entry-held, remove_entry-absent, lookup_entry-absent}
 
 -- a new key in a cache that was given room for one pair more
@@ -111,17 +111,23 @@ module _ {K V : Type 0} {same : K → K → Bool} (laws : IsEquivalence same) (o
 
     -- the key is in the cache, and is made ready
     pub kept-there : IsSome (lookup (same key) cache.entries) → IsKept same flows cache (Some key)
-    kept-there there = record { few = kept.few; some = kept.some; fits = kept.fits; form = elim kept.form [
-      | inl plain ↦ inl (record { entries = plain.entries; cap = plain.cap; ready_is = in_list plain.entries })
-      | inr roomy ↦ elim other [
-        | inl none ↦ let r = roomy.ready_is in cc
-        | inr here ↦ inr (record { key = roomy.key; ready_is = sym here ∙ roomy.ready_is; entries = roomy.entries; cap = roomy.cap; absent = roomy.absent })
-      ]
-    ] }
+    kept-there there = record {
+      few = kept.few;
+      some = kept.some;
+      fits = kept.fits;
+      form = elim kept.form [
+        | inl plain ↦ inl (record { entries = plain.entries; cap = plain.cap; ready_is = in_list plain.entries })
+        | inr roomy ↦ elim other [
+          | inl none ↦ let r = roomy.ready_is in cc
+          | inr here ↦ inr (record { key = roomy.key; ready_is = sym here ∙ roomy.ready_is; entries = roomy.entries; cap = roomy.cap; absent = roomy.absent })
+        ]
+      ];
+    }
       where
         with_entry : (o : Option V) → IsSome (option_map (λ (entry : V). Some entry) o) → IsSome o
         with_entry None h = h
         with_entry (Some entry) h = refl
+
         in_list : cache.entries ≡ held list → IsSome (lookup (same key) list)
         in_list e = with_entry (lookup (same key) list) (subst IsSome (ap (λ (es : List (K × Option V)). lookup (same key) es) e ∙ lookup-held (same key) list) there)
 
@@ -166,6 +172,7 @@ module _ {K V : Type 0} {same : K → K → Bool} (laws : IsEquivalence same) (o
             | true ↦ λ t. let h' = rw t at h in cc
             | false ↦ λ t. rw t (none_from es (rw t at h))
           ]) refl
+
           at : (o : Option (K × V)) → lookup_entry (same key) list ≡ o → take flows (put_entries same (lru_cache (held list) flows) key (Some entry)) ≡ held set_list
           at None h = set-new same one key entry flows list (none_from list h) kept.some
           at (Some pair) h = set-found same one key entry flows list pair h

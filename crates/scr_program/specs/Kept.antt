@@ -1,5 +1,5 @@
 -- How the cache under a flow table holds the flows.
-use Rattle.std.specs.Prelude.{◌≡◌, ℕ, ◌+◌, ◌<◌, ◌≤◌, ◌^◌, ◌⊎◌, Bool, List, ◌∷◌, length, Option, Some, None, IfSome, IsSome}
+use Rattle.std.specs.Prelude.{◌≡◌, ℕ, ◌+◌, ◌<◌, ◌≤◌, ◌^◌, ◌⊎◌, Bool, ◌∷◌, length, Option, Some, None, IfSome, IsSome}
 use Rattle.std.specs.Map.{lookup}
 use Rattle.lru.specs.LruCache.{LruCache}
 use Rattle.scr_program.specs.FlowTable.{known, held}

@@ -2,4 +2,5 @@ pub mod Folds
 pub mod FlowList
 pub mod FlowTable
 pub mod Kept
+pub mod Keys
 pub mod Rows

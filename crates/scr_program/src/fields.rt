@@ -88,7 +88,8 @@ pub fn pack(fields: &Fields) -> Row
     ensures row { result ≡ packed fields.now }
     ensures reads_back { unpacked result ≡ fields.now }
 {
-    let ports = u64::from(fields.source_port) * (1 << 48) + u64::from(fields.destination_port) * (1 << 32);
+    let ports = u64::from(fields.source_port) * (1 << 48)
+        + u64::from(fields.destination_port) * (1 << 32);
     let bytes = u64::from(fields.protocol) * (1 << 24)
         + u64::from(fields.flags) * (1 << 16)
         + u64::from(fields.source.family) * (1 << 8)

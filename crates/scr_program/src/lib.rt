@@ -2,9 +2,11 @@
 #![tactic(auto)]
 
 mod fields;
+mod key;
 mod program;
 mod table;
 
 pub use fields::{Address, Fields, fields_of, pack, unpack};
+pub use key::{FiveTuple, FlowKey};
 pub use program::Program;
-pub use table::{FlowKey, FlowTable};
+pub use table::FlowTable;

@@ -43,13 +43,21 @@ pub trait Program: Sync {
         ensures { IfOk result (λ state. StandsFor settings.now state []) };
 
     /// Takes the memory that a step with this row may need. It changes nothing that the state stands for.
-    fn prepare(settings: &Self::Settings, state: &mut Self::State, row: &Row) -> Result<(), OutOfMemory>
+    fn prepare(
+        settings: &Self::Settings,
+        state: &mut Self::State,
+        row: &Row,
+    ) -> Result<(), OutOfMemory>
         ensures stands { (rows : List Row) → StandsFor settings.now state.old rows → StandsFor settings.now state.new rows }
         ensures ready { OnOk result (IsReady settings.now state.new row.now) }
         ensures succeeds { IsReady settings.now state.old row.now → IsOk result };
 
     /// Takes the row of the next packet, and gives its verdict. At `Err` the state stands for what it did.
-    fn step(settings: &Self::Settings, state: &mut Self::State, row: &Row) -> Result<Verdict, OutOfMemory>
+    fn step(
+        settings: &Self::Settings,
+        state: &mut Self::State,
+        row: &Row,
+    ) -> Result<Verdict, OutOfMemory>
         ensures verdict { (rows : List Row) → StandsFor settings.now state.old rows → IfOk result (λ verdict. verdict ≡ verdict_after settings.now rows row.now) }
         ensures stands { (rows : List Row) → StandsFor settings.now state.old rows → OnOk result (StandsFor settings.now state.new (rows ++ row.now ∷ [])) }
         ensures err { (rows : List Row) → StandsFor settings.now state.old rows → OnErr result (StandsFor settings.now state.new rows) }

@@ -4,17 +4,12 @@ ghost use Rattle.std.specs.NonZero.{non_zero_usize_get};
 ghost use Rattle.lru.specs.LruCache.{lru_cache, put_entries};
 ghost use Rattle.scr_program.specs.FlowList.{set_key};
 
+use crate::key::FlowKey;
 use lru::LruCache;
 use scr_base::OutOfMemory;
 use std::alloc::Global;
-use std::hash::Hash;
 use std::marker::Model;
 use std::num::NonZeroUsize;
-
-/// A key of a flow table. Equal keys are one key.
-pub trait FlowKey: Copy + Eq + Hash + Drop {
-    ghost is_one: { (a b : Self) → Self.eq a b ≡ true → a ≡ b };
-}
 
 /// A table of the flows that were used last.
 #[derive(Drop)]

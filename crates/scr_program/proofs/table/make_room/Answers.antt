@@ -1,5 +1,5 @@
 -- The cache has room for one pair more than it could hold before.
-use Rattle.std.proofs.Common.{◌≡◌, None, ◌+◌, ◌≤◌, arith, rules}
+use Rattle.std.proofs.Common.{◌≡◌, None, ◌+◌, arith, rules}
 use Rattle.std.specs.NonZero.{non_zero_usize_get}
 use Rattle.scr_program.proofs.Kept.{put_entries-room}
 use Rattle.scr_program.proofs.table.make_room.Goals as goal

@@ -1,6 +1,4 @@
 -- The cache finds the entry that the flows have.
-use Rattle.std.proofs.Common.{◌≡◌, ◌∙◌, ap}
-use Rattle.std.specs.Option.{option_flatten}
 use Rattle.scr_program.proofs.Kept.{look-kept}
 use Rattle.scr_program.proofs.table.FlowTable.look.Goals as goal
 

@@ -3,7 +3,6 @@ use Rattle.std.proofs.Common.{◌≡◌, ◌∙◌, ◌⊎◌, ap, subst, sym, O
 use Rattle.std.specs.NonZero.{non_zero_usize_get}
 use Rattle.lru.specs.LruCache.{LruCache}
 use Rattle.scr_program.specs.FlowTable.{Table, known}
-use Rattle.scr_program.specs.FlowList.{set_key}
 use Rattle.scr_program.specs.Kept.{IsKept}
 use Rattle.scr_program.proofs.Kept.{has-known, has-ready, kept-absent, set-known, kept-set}
 use Rattle.scr_program.proofs.Outcomes.{OnOk_then, on_both}
