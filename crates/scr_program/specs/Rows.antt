@@ -32,6 +32,20 @@ frame_fields frame time = record {
 abbrev pub zero_row : Row
 zero_row = record { w0 = 0; w1 = 0; w2 = 0; w3 = 0; w4 = 0; w5 = 0; w6 = 0 }
 
+-- fields that are all 0
+abbrev pub no_fields : Fields
+no_fields = record {
+  source = record { family = 0; value = 0 };
+  destination = record { family = 0; value = 0 };
+  source_port = 0;
+  destination_port = 0;
+  protocol = 0;
+  flags = 0;
+  kind = 0;
+  time = 0;
+  length = 0;
+}
+
 -- The row of these fields. An address takes two words, the high 64 bits first; the fifth word has the ports, the
 -- protocol, the flags, the family of both addresses and the kind.
 abbrev pub packed : Fields → Row

@@ -49,6 +49,32 @@ pub struct Fields {
 
 ghost use Rattle.scr_program.specs.Rows.{frame_fields, packed, unpacked, kind_number};
 
+impl Fields {
+    /// Fields that are all 0.
+    pub const NONE: Fields = Fields {
+        source: Address { family: 0, value: 0 },
+        destination: Address { family: 0, value: 0 },
+        source_port: 0,
+        destination_port: 0,
+        protocol: 0,
+        flags: 0,
+        kind: 0,
+        time: 0,
+        length: 0,
+    };
+}
+
+/// The row of a frame that a program doesn't look at.
+pub const ZERO_ROW: Row = Row {
+    w0: 0,
+    w1: 0,
+    w2: 0,
+    w3: 0,
+    w4: 0,
+    w5: 0,
+    w6: 0,
+};
+
 /// All fields of a frame that came at this time, in microseconds.
 pub fn fields_of(parsed: &Parsed, time: u64) -> Fields
     ensures { result ≡ frame_fields parsed.now time }

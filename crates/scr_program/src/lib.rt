@@ -6,7 +6,7 @@ mod key;
 mod program;
 mod table;
 
-pub use fields::{Address, Fields, fields_of, pack, unpack};
+pub use fields::{Address, Fields, ZERO_ROW, fields_of, pack, unpack};
 pub use key::{FiveTuple, FlowKey};
 pub use program::Program;
 pub use table::FlowTable;
