@@ -52,8 +52,14 @@ ghost use Rattle.scr_program.specs.Rows.{frame_fields, packed, unpacked, kind_nu
 impl Fields {
     /// Fields that are all 0.
     pub const NONE: Fields = Fields {
-        source: Address { family: 0, value: 0 },
-        destination: Address { family: 0, value: 0 },
+        source: Address {
+            family: 0,
+            value: 0,
+        },
+        destination: Address {
+            family: 0,
+            value: 0,
+        },
         source_port: 0,
         destination_port: 0,
         protocol: 0,

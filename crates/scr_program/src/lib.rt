@@ -5,6 +5,8 @@ mod fields;
 mod key;
 mod program;
 mod table;
+#[cfg(test)]
+mod tests;
 
 pub use fields::{Address, Fields, ZERO_ROW, fields_of, pack, unpack};
 pub use key::{FiveTuple, FlowKey};
