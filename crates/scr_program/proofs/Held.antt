@@ -54,3 +54,10 @@ module _ {K V : Type 0} where
       | true ↦ λ t. let h' = rw t at h in cc
       | false ↦ λ t. rw t (lookup_entry-absent list (rw t at h))
     ]) refl
+
+    pub lookup-no_entry : (list : List (K × V)) → lookup_entry test list ≡ None → lookup test list ≡ None
+    lookup-no_entry [] h = refl
+    lookup-no_entry (pair ∷ list) h = (elim (test pair.0) as (λ y. test pair.0 ≡ y → lookup test (pair ∷ list) ≡ None) [
+      | true ↦ λ t. let h' = rw t at h in cc
+      | false ↦ λ t. rw t (lookup-no_entry list (rw t at h))
+    ]) refl

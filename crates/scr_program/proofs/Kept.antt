@@ -1,5 +1,5 @@
 -- What the calls of a flow table leave in its cache.
-use Rattle.std.proofs.Common.{◌≡◌, ℕ, zero, suc, ◌+◌, ◌-◌, ◌<◌, ◌≤◌, ◌⊎◌, inl, inr, Bool, true, false, List, [], ◌∷◌, length, take, Option, Some, None, IsSome, IfSome, Result, Ok, Err, IsOk, OnOk, OnErr, refl, sym, ap, subst, ◌∙◌, arith}
+use Rattle.std.proofs.Common.{◌≡◌, ℕ, zero, suc, ◌+◌, ◌-◌, ◌<◌, ◌≤◌, ◌⊎◌, inl, inr, Bool, true, false, List, ◌∷◌, length, take, Option, Some, None, IsSome, IfSome, Result, Ok, Err, IsOk, OnOk, OnErr, refl, sym, ap, subst, ◌∙◌, arith}
 use Rattle.std.specs.Cmp.{IsEquivalence}
 use Rattle.std.specs.Result.{is_ok}
 use Rattle.std.specs.Option.{option_map, option_flatten}
@@ -11,7 +11,7 @@ use Rattle.lru.proofs.CallerLemmas.{Contains-lookup_entry}
 use Rattle.scr_program.specs.FlowList.{set_key}
 use Rattle.scr_program.specs.FlowTable.{known, held}
 use Rattle.scr_program.specs.Kept.{IsKept, IsPlain}
-use Rattle.scr_program.proofs.Held.{held_pair, known-held, take-held, lookup-held, lookup_entry-held, remove_entry-held, remove_entry-absent, lookup_entry-absent}
+use Rattle.scr_program.proofs.Held.{held_pair, known-held, take-held, lookup-held, lookup_entry-held, remove_entry-held, remove_entry-absent, lookup_entry-absent, lookup-no_entry}
 
 -- a new key in a cache that was given room for one pair more
 pub put_entries-room : {K V : Type 0} (same : K → K → Bool) (pairs : List (K × V)) (most room : ℕ) (cache : LruCache K V) (key : K) (value : V) → cache ≡ lru_cache (take room pairs) room → room ≡ most + 1 → lookup (same key) pairs ≡ None → length pairs ≤ most → lru_cache (put_entries same cache key value) cache.cap ≡ lru_cache ((key, value) ∷ pairs) (most + 1)
@@ -166,18 +166,11 @@ module _ {K V : Type 0} {same : K → K → Bool} (laws : IsEquivalence same) (o
       set-plain : take flows (put_entries same (lru_cache (held list) flows) key (Some entry)) ≡ held set_list
       set-plain = at (lookup_entry (same key) list) refl
         where
-          none_from : (es : List (K × V)) → lookup_entry (same key) es ≡ None → lookup (same key) es ≡ None
-          none_from [] h = refl
-          none_from (pair ∷ es) h = (elim (same key pair.0) as (λ y. same key pair.0 ≡ y → lookup (same key) (pair ∷ es) ≡ None) [
-            | true ↦ λ t. let h' = rw t at h in cc
-            | false ↦ λ t. rw t (none_from es (rw t at h))
-          ]) refl
-
           at : (o : Option (K × V)) → lookup_entry (same key) list ≡ o → take flows (put_entries same (lru_cache (held list) flows) key (Some entry)) ≡ held set_list
-          at None h = set-new same one key entry flows list (none_from list h) kept.some
+          at None h = set-new same one key entry flows list (lookup-no_entry (same key) list h) kept.some
           at (Some pair) h = set-found same one key entry flows list pair h
 
-      pub set-entries : take flows (put_entries same cache key (Some entry)) ≡ held set_list
+      set-entries : take flows (put_entries same cache key (Some entry)) ≡ held set_list
       set-entries = elim kept.form [
         | inl plain ↦
             let form : cache ≡ lru_cache (held list) flows = ap (λ (es : List (K × Option V)). lru_cache es cache.cap) plain.entries ∙ ap (λ (n : ℕ). lru_cache (held list) n) plain.cap in
@@ -188,11 +181,10 @@ module _ {K V : Type 0} {same : K → K → Bool} (laws : IsEquivalence same) (o
             ap (λ (c : LruCache K (Option V)). take flows (put_entries same c key (Some entry))) form ∙ set-ready same one key entry flows list (laws.refl key) (subst (λ (k : K). lookup (same k) list ≡ None) here roomy.absent)
       ]
 
-      -- the flows after the key was set
-      pub set-known : (after : LruCache K (Option V)) → after ≡ lru_cache (take flows (put_entries same cache key (Some entry))) flows → known after.entries ≡ set_list
+      set-known : (after : LruCache K (Option V)) → after ≡ lru_cache (take flows (put_entries same cache key (Some entry))) flows → known after.entries ≡ set_list
       set-known after put = ap (λ (c : LruCache K (Option V)). known c.entries) put ∙ ap (λ (es : List (K × Option V)). known es) set-entries ∙ known-held set_list
 
-      pub kept-set : (after : LruCache K (Option V)) → after ≡ lru_cache (take flows (put_entries same cache key (Some entry))) flows → IsKept same flows after None
+      kept-set : (after : LruCache K (Option V)) → after ≡ lru_cache (take flows (put_entries same cache key (Some entry))) flows → IsKept same flows after None
       kept-set after put =
           let are : known after.entries ≡ set_list = set-known after put in
           let entries : after.entries ≡ held set_list = ap (λ (c : LruCache K (Option V)). c.entries) put ∙ set-entries in
@@ -203,3 +195,19 @@ module _ {K V : Type 0} {same : K → K → Bool} (laws : IsEquivalence same) (o
             fits = rw are few;
             form = inl (record { entries = entries ∙ sym (ap (λ (l : List (K × V)). held l) are); cap = ap (λ (c : LruCache K (Option V)). c.cap) put; ready_is = tt });
           }
+
+      -- what is left where the key was to be set
+      module _ {T E : Type 0} (put : Result T E) (after : LruCache K (Option V)) (ok : OnOk put (after ≡ lru_cache (take flows (put_entries same cache key (Some entry))) flows)) (err : OnErr put ((after ≡ cache) × (lookup (same key) cache.entries ≡ None))) where
+        pub kept-put : IsKept same flows after None
+        kept-put = at put ok err
+          where
+            at : (r : Result T E) → OnOk r (after ≡ lru_cache (take flows (put_entries same cache key (Some entry))) flows) → OnErr r ((after ≡ cache) × (lookup (same key) cache.entries ≡ None)) → IsKept same flows after None
+            at (Ok x) is not = kept-set after is
+            at (Err e) is not = subst (λ (c : LruCache K (Option V)). IsKept same flows c None) (sym not.0) (kept-absent not.1)
+
+        pub known-put : OnOk put (known after.entries ≡ set_list)
+        known-put = at put ok
+          where
+            at : (r : Result T E) → OnOk r (after ≡ lru_cache (take flows (put_entries same cache key (Some entry))) flows) → OnOk r (known after.entries ≡ set_list)
+            at (Ok x) is = set-known after is
+            at (Err e) is = tt

@@ -1,4 +1,3 @@
 pub mod Folds
 pub mod Held
 pub mod Kept
-pub mod Outcomes

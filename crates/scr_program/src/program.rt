@@ -16,25 +16,25 @@ pub trait Program: Sync {
     /// What the program keeps of the rows so far.
     type State: Drop + Send;
 
-    // the row of a parsed frame and a time
+    /// The row of a frame with these fields that came at this time.
     ghost row_of: { Self.Settings → Parsed → ℕ → Row };
 
-    // the state is the one after these rows
+    /// The state is the one after these rows, the oldest first.
     ghost StandsFor: { Self.Settings → Self.State → List Row → Type 0 };
 
-    // the verdict of a row that comes after these rows
+    /// The verdict of a row that comes after these rows.
     ghost verdict_after: { Self.Settings → List Row → Row → Verdict };
 
-    // how many entries the state has after these rows
+    /// How many entries there are after these rows.
     ghost count_after: { Self.Settings → List Row → ℕ };
 
-    // a step with this row needs no more memory
+    /// A step with this row needs no more memory.
     ghost IsReady: { Self.Settings → Self.State → Row → Type 0 };
 
-    // the names of the verdicts, as bytes
+    /// The names of the verdicts, as bytes.
     ghost verdict_names: { List (List ℕ) };
 
-    /// The row of a frame that came at this time, in microseconds.
+    /// The row of a frame that came at this time, in microseconds. Fields that the program doesn't look at are 0.
     fn extract(settings: &Self::Settings, parsed: &Parsed, time: u64) -> Row
         ensures { result ≡ row_of settings.now parsed.now time };
 
@@ -63,7 +63,7 @@ pub trait Program: Sync {
         ensures err { (rows : List Row) → StandsFor settings.now state.old rows → OnErr result (StandsFor settings.now state.new rows) }
         ensures succeeds { IsReady settings.now state.old row.now → IsOk result };
 
-    /// How many entries the state has.
+    /// How many entries the state has: the flows that it keeps.
     fn flows(settings: &Self::Settings, state: &Self::State) -> u64
         ensures { (rows : List Row) → StandsFor settings.now state.now rows → result ≡ count_after settings.now rows };
 
@@ -71,10 +71,10 @@ pub trait Program: Sync {
     fn names() -> u8
         ensures { result ≡ length verdict_names };
 
-    /// The name of a verdict, where there is one.
+    /// The name of a verdict; none exactly where the code is not below [`Program::names`].
     fn name_of(verdict: Verdict) -> Option<&'static str>
         ensures { option_map (λ name. name.now) result ≡ slice_get verdict_names verdict.0 };
 
-    // each verdict has a name
+    /// Each verdict has a name.
     ghost is_named: { (settings : Self.Settings) (rows : List Row) (row : Row) → (verdict_after settings rows row).0 < length verdict_names };
 }

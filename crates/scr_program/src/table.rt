@@ -11,10 +11,13 @@ use std::alloc::Global;
 use std::marker::Model;
 use std::num::NonZeroUsize;
 
-/// A table of the flows that were used last.
+/// The flows that were used last: a key and an entry each.
+///
+/// A contract sees the most flows that there may be, the list of flows with the most recently used first, and the ready
+/// key, for which the memory of a [`FlowTable::set`] was taken before.
 #[derive(Drop)]
 pub struct FlowTable<K: FlowKey, V: Copy + Drop> {
-    // A key without an entry is the ready key: room is kept for it.
+    // A ready key that is no flow stands in front without an entry, and then the cache may hold one pair more.
     cache: LruCache<K, Option<V>>,
     flows: NonZeroUsize,
     ready: Option<K>,
@@ -35,15 +38,13 @@ impl<K: FlowKey, V: Copy + Drop> Model for FlowTable<K, V> {
 }
 
 impl<K: FlowKey, V: Copy + Drop> FlowTable<K, V> {
-    /// An empty table that holds so many flows at most.
+    /// An empty table that holds so many flows at most. No key is ready.
     pub fn make(alloc: Global, flows: u32) -> Result<Self, OutOfMemory>
         requires some { 1 ≤ flows }
         requires few { flows ≤ 2 ^ 16 }
         ensures { IfOk result (λ table. table ≡ record { flows = flows; list = []; ready = None }) }
     {
-        let Some(flows) = NonZeroUsize::new(flows as usize) else {
-            return Err(OutOfMemory);
-        };
+        let flows = NonZeroUsize::new(flows as usize).unwrap();
         Ok(FlowTable {
             cache: LruCache::new(alloc, flows)?,
             flows,
@@ -72,8 +73,11 @@ impl<K: FlowKey, V: Copy + Drop> FlowTable<K, V> {
         flows as u32
     }
 
-    /// Gives a key this entry, and makes it the most recently used. A new key takes the room of the last one in a full
-    /// table. No key is ready then. At `Err` the flows are as they were; a key that is there, or ready, meets none.
+    /// Gives a key this entry, and makes it the most recently used. In a full table the least recently used flow goes
+    /// where the key is new. No key is ready afterwards.
+    ///
+    /// # Errors
+    /// The flows are as they were. A key that is a flow's, or is ready, meets no error.
     pub fn set(&mut self, key: K, entry: V) -> Result<(), OutOfMemory>
         ensures set { OnOk result (self.new.list ≡ set_key K.eq self.old.flows self.old.list key entry) }
         ensures err { OnErr result (self.new.list ≡ self.old.list) }
@@ -88,7 +92,11 @@ impl<K: FlowKey, V: Copy + Drop> FlowTable<K, V> {
         put
     }
 
-    /// Makes a key ready: takes the memory that its `set` may need. The flows stay as they are.
+    /// Makes a key ready, in place of the one that was: takes the memory that its `set` may need. The flows and their
+    /// order stay as they are, also in a full table.
+    ///
+    /// # Errors
+    /// No key is ready then. A key that is a flow's, or is ready, meets no error.
     pub fn prepare(&mut self, key: K) -> Result<(), OutOfMemory>
         ensures ok { OnOk result (self.new ≡ record self.old { ready = Some key }) }
         ensures err { OnErr result (self.new ≡ record self.old { ready = None }) }
