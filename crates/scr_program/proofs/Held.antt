@@ -1,7 +1,7 @@
 -- Flows, and the pairs by which a cache holds them.
 use Rattle.std.proofs.Common.{◌≡◌, ℕ, zero, suc, Bool, true, false, List, [], ◌∷◌, take, Option, Some, None, refl, ap}
 use Rattle.std.specs.Option.{option_map}
-use Rattle.std.specs.Map.{lookup, lookup_entry, remove_entry}
+use Rattle.std.specs.Map.{lookup, lookup_entry, remove_entry, keys_of}
 use Rattle.scr_program.specs.FlowTable.{known, held}
 
 module _ {K V : Type 0} where
@@ -17,6 +17,10 @@ module _ {K V : Type 0} where
   take-held zero list = refl
   take-held (suc n) [] = refl
   take-held (suc n) (pair ∷ list) = ap (λ (rest : List (K × Option V)). held_pair pair ∷ rest) (take-held n list)
+
+  pub keys_of-held : (list : List (K × V)) → keys_of (held list) ≡ keys_of list
+  keys_of-held [] = refl
+  keys_of-held (pair ∷ list) = ap (λ (keys : List K). pair.0 ∷ keys) (keys_of-held list)
 
   module _ (test : K → Bool) where
     pub lookup-held : (list : List (K × V)) → lookup test (held list) ≡ option_map (λ (entry : V). Some entry) (lookup test list)

@@ -4,14 +4,16 @@ use Rattle.std.specs.Cmp.{IsEquivalence}
 use Rattle.std.specs.Result.{is_ok}
 use Rattle.std.specs.Option.{option_map, option_flatten}
 use Rattle.std.specs.Bool.{then_some}
-use Rattle.std.specs.Map.{lookup, lookup_entry, remove_entry}
+use Rattle.std.specs.List.{IsDistinct}
+use Rattle.std.specs.Map.{lookup, lookup_entry, remove_entry, keys_of}
+use Rattle.std.proofs.lemmas.Map.Keys.{IsDistinct-tail}
 use Rattle.std.proofs.lemmas.List.{take_all, take-take, length-take}
 use Rattle.lru.specs.LruCache.{LruCache, lru_cache, put_entries}
 use Rattle.lru.proofs.CallerLemmas.{Contains-lookup_entry}
 use Rattle.scr_program.specs.FlowList.{set_key}
 use Rattle.scr_program.specs.FlowTable.{known, held}
 use Rattle.scr_program.specs.Kept.{IsKept, IsPlain}
-use Rattle.scr_program.proofs.Held.{held_pair, known-held, take-held, lookup-held, lookup_entry-held, remove_entry-held, remove_entry-absent, lookup_entry-absent, lookup-no_entry}
+use Rattle.scr_program.proofs.Held.{held_pair, known-held, keys_of-held, take-held, lookup-held, lookup_entry-held, remove_entry-held, remove_entry-absent, lookup_entry-absent, lookup-no_entry}
 
 -- a new key in a cache that was given room for one pair more
 pub put_entries-room : {K V : Type 0} (same : K → K → Bool) (pairs : List (K × V)) (most room : ℕ) (cache : LruCache K V) (key : K) (value : V) → cache ≡ lru_cache (take room pairs) room → room ≡ most + 1 → lookup (same key) pairs ≡ None → length pairs ≤ most → lru_cache (put_entries same cache key value) cache.cap ≡ lru_cache ((key, value) ∷ pairs) (most + 1)
@@ -41,6 +43,15 @@ module _ {K V : Type 0} (same : K → K → Bool) where
   look-kept one key flows cache ready kept = elim kept.form [
     | inl plain ↦ ap (λ (es : List (K × Option V)). option_flatten (lookup (same key) es)) plain.entries ∙ look-plain key (known cache.entries)
     | inr roomy ↦ ap (λ (es : List (K × Option V)). option_flatten (lookup (same key) es)) roomy.entries ∙ look-roomy one key roomy.key (known cache.entries) roomy.absent
+  ]
+
+  -- the keys of the flows are distinct where those in the cache are
+  pub distinct-kept : (flows : ℕ) (cache : LruCache K (Option V)) (ready : Option K) → IsKept same flows cache ready → IsDistinct same (keys_of cache.entries) → IsDistinct same (keys_of (known cache.entries))
+  distinct-kept flows cache ready kept distinct = elim kept.form [
+    | inl plain ↦ subst (IsDistinct same) (ap (λ (es : List (K × Option V)). keys_of es) plain.entries ∙ keys_of-held (known cache.entries)) distinct
+    | inr roomy ↦
+        let keys : keys_of cache.entries ≡ roomy.key ∷ keys_of (known cache.entries) = ap (λ (es : List (K × Option V)). keys_of es) roomy.entries ∙ ap (λ (ks : List K). roomy.key ∷ ks) (keys_of-held (known cache.entries)) in
+        IsDistinct-tail same roomy.key (keys_of (known cache.entries)) (subst (IsDistinct same) keys distinct)
   ]
 
   module _ (one : (a b : K) → same a b ≡ true → a ≡ b) (key : K) (entry : V) where

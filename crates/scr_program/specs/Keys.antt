@@ -22,7 +22,8 @@ is_same_address a b = (a.family == b.family) && (a.value == b.value)
 abbrev pub is_same_tuple : FiveTuple → FiveTuple → Bool
 is_same_tuple a b = is_same_address a.source b.source && (is_same_address a.destination b.destination && ((a.source_port == b.source_port) && ((a.destination_port == b.destination_port) && (a.protocol == b.protocol))))
 
-both : (p q : Bool) → (p && q) ≡ true → (p ≡ true) × (q ≡ true)
+-- two tests that hold together
+pub both : (p q : Bool) → (p && q) ≡ true → (p ≡ true) × (q ≡ true)
 both true q h = (cc, h)
 both false q h = cc
 

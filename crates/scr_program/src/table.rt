@@ -1,5 +1,6 @@
 ghost use Rattle.std.specs.Prelude.{◌≡◌, ◌≤◌, ◌⊎◌, ◌+◌, ◌^◌, ◌<◌, ◌∷◌, [], None, length, take, Some, true, IfOk, OnOk, OnErr, IsOk, IsSome};
-ghost use Rattle.std.specs.Map.{lookup};
+ghost use Rattle.std.specs.List.{IsDistinct};
+ghost use Rattle.std.specs.Map.{lookup, keys_of};
 ghost use Rattle.std.specs.NonZero.{non_zero_usize_get};
 ghost use Rattle.lru.specs.LruCache.{lru_cache, put_entries};
 ghost use Rattle.scr_program.specs.FlowList.{set_key};
@@ -59,10 +60,11 @@ impl<K: FlowKey, V: Copy + Drop> FlowTable<K, V> {
         self.cache.peek(key).copied().flatten()
     }
 
-    /// How many flows there are.
+    /// How many flows there are. Their keys are distinct.
     pub fn len(&self) -> u32
         ensures len { result ≡ length self.now.list }
         ensures few { result ≤ self.now.flows }
+        ensures distinct { IsDistinct K.eq (keys_of self.now.list) }
     {
         let pairs = self.cache.len();
         let flows = if self.cache.cap() == self.flows {
