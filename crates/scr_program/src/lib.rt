@@ -1,0 +1,36 @@
+//! What the packet programs stand on: their trait, the rows that they read, and the table of flows that they keep.
+//!
+//! **What it does.** A [`Program`] makes a row of a frame and takes the rows one after another, with a verdict on each.
+//! [`fields_of`], [`pack`] and [`unpack`] turn a frame into fields and fields into a row and back. A [`FlowTable`]
+//! keeps the flows that were used last, over the cache of the crate `lru`, by keys such as an [`Address`] or a
+//! [`FiveTuple`].
+//!
+//! **What a contract sees.** A program by six definitions over plain data: the row of a frame and a time, whether a
+//! state stands for a list of rows, the verdict of a row after a list, the count of entries after a list, whether a
+//! state is ready for a row, and the names of the verdicts. A table as the most flows that it holds, its flows with the
+//! most recently used first, and the key that is ready. specs/FlowList.antt says what setting a key leaves, and
+//! specs/Folds.antt what a program is that is a step on such a list.
+//!
+//! **What is proved.** The table is the list of the definition, for each call and both answers; a refused call leaves
+//! the flows as they were, and a key that is a flow's, or is ready, is never refused. A row is the fields at their
+//! places, and is read back as these fields. Each program's crate proves the clauses of the trait for its own step, by
+//! the lemmas of proofs/Folds.antt.
+//!
+//! **What is only tested.** That calls succeed where there is memory, and the words of a datagram's rows.
+//!
+//! **Limits.** A table holds at most 65,536 flows, and hashes by a seed that is fixed and known: whoever picks the keys
+//! can make look-ups slow, and can't change their answers. A key that is made ready is looked up once more, and where
+//! it is new the cache is made larger and smaller again.
+#![tactic(auto)]
+
+mod fields;
+mod key;
+mod program;
+mod table;
+#[cfg(test)]
+mod tests;
+
+pub use fields::{Address, Fields, ZERO_ROW, fields_of, pack, unpack};
+pub use key::{FiveTuple, FlowKey};
+pub use program::Program;
+pub use table::FlowTable;

@@ -1,0 +1,178 @@
+ghost use Rattle.std.specs.Prelude.{◌≡◌, ◌≤◌, ◌⊎◌, ◌+◌, ◌^◌, ◌<◌, ◌∷◌, [], None, length, take, Some, true, IfOk, OnOk, OnErr, IsOk, IsSome};
+ghost use Rattle.std.specs.List.{IsDistinct};
+ghost use Rattle.std.specs.Map.{lookup, keys_of};
+ghost use Rattle.std.specs.NonZero.{non_zero_usize_get};
+ghost use Rattle.lru.specs.LruCache.{lru_cache, put_entries};
+ghost use Rattle.scr_program.specs.FlowList.{set_key};
+
+use crate::key::FlowKey;
+use lru::LruCache;
+use scr_base::OutOfMemory;
+use std::alloc::Global;
+use std::marker::Model;
+use std::num::NonZeroUsize;
+
+/// The flows that were used last: a key and an entry each.
+///
+/// A contract sees the most flows that there may be, the list of flows with the most recently used first, and the ready
+/// key, for which the memory of a [`FlowTable::set`] was taken before.
+#[derive(Drop)]
+pub struct FlowTable<K: FlowKey, V: Copy + Drop> {
+    // A ready key that is no flow stands in front without an entry, and then the cache may hold one pair more.
+    cache: LruCache<K, Option<V>>,
+    flows: NonZeroUsize,
+    ready: Option<K>,
+}
+
+impl<K: FlowKey, V: Copy + Drop> Model for FlowTable<K, V> {
+    ghost use Rattle.std.specs.NonZero.{non_zero_usize_get};
+    ghost use Rattle.scr_program.specs.FlowTable.{Table, table_code, known};
+    ghost use Rattle.scr_program.specs.Kept.{IsKept};
+
+    ghost Value = { Table K V };
+
+    ghost coded = { table_code K.code V.code };
+
+    ghost view = { λ t. record { flows = non_zero_usize_get t.flows; list = known t.cache.entries; ready = t.ready } };
+
+    ghost invariant = { λ t. IsKept K.eq (non_zero_usize_get t.flows) t.cache t.ready };
+}
+
+impl<K: FlowKey, V: Copy + Drop> FlowTable<K, V> {
+    /// An empty table that holds so many flows at most. No key is ready.
+    pub fn make(alloc: Global, flows: u32) -> Result<Self, OutOfMemory>
+        requires some { 1 ≤ flows }
+        requires few { flows ≤ 2 ^ 16 }
+        ensures { IfOk result (λ table. table ≡ record { flows = flows; list = []; ready = None }) }
+    {
+        let flows = NonZeroUsize::new(flows as usize).unwrap();
+        Ok(FlowTable {
+            cache: LruCache::new(alloc, flows)?,
+            flows,
+            ready: None,
+        })
+    }
+
+    /// The entry of a key. The order stays.
+    pub fn look(&self, key: &K) -> Option<V>
+        ensures { result ≡ lookup (K.eq key.now) self.now.list }
+    {
+        self.cache.peek(key).copied().flatten()
+    }
+
+    /// How many flows there are. Their keys are distinct.
+    pub fn len(&self) -> u32
+        ensures len { result ≡ length self.now.list }
+        ensures few { result ≤ self.now.flows }
+        ensures distinct { IsDistinct K.eq (keys_of self.now.list) }
+    {
+        let pairs = self.cache.len();
+        let flows = if self.cache.cap() == self.flows {
+            pairs
+        } else {
+            pairs - 1
+        };
+        flows as u32
+    }
+
+    /// Gives a key this entry, and makes it the most recently used. In a full table the least recently used flow goes
+    /// where the key is new. No key is ready afterwards.
+    ///
+    /// # Errors
+    /// The flows are as they were. A key that is a flow's, or is ready, meets no error.
+    pub fn set(&mut self, key: K, entry: V) -> Result<(), OutOfMemory>
+        ensures set { OnOk result (self.new.list ≡ set_key K.eq self.old.flows self.old.list key entry) }
+        ensures err { OnErr result (self.new.list ≡ self.old.list) }
+        ensures flows { self.new.flows ≡ self.old.flows }
+        ensures ready { self.new.ready ≡ None }
+        ensures known_succeeds { IsSome (lookup (K.eq key) self.old.list) → IsOk result }
+        ensures ready_succeeds { self.old.ready ≡ Some key → IsOk result }
+    {
+        self.forget_other(key);
+        let put = put_within(&mut self.cache, self.flows, key, entry);
+        self.ready = None;
+        put
+    }
+
+    /// Makes a key ready, in place of the one that was: takes the memory that its `set` may need. The flows and their
+    /// order stay as they are, also in a full table.
+    ///
+    /// # Errors
+    /// No key is ready then. A key that is a flow's, or is ready, meets no error.
+    pub fn prepare(&mut self, key: K) -> Result<(), OutOfMemory>
+        ensures ok { OnOk result (self.new ≡ record self.old { ready = Some key }) }
+        ensures err { OnErr result (self.new ≡ record self.old { ready = None }) }
+        ensures known_succeeds { IsSome (lookup (K.eq key) self.old.list) → IsOk result }
+        ensures ready_succeeds { self.old.ready ≡ Some key → IsOk result }
+    {
+        self.forget_other(key);
+        let room = make_room(&mut self.cache, key);
+        self.ready = room.is_ok().then_some(key);
+        room
+    }
+
+    // Forgets the ready key, if it is another one than this.
+    fn forget_other(&mut self, key: K)
+        ensures flows { self.new.flows ≡ self.old.flows }
+        ensures list { self.new.list ≡ self.old.list }
+        ensures other { (self.new.ready ≡ None) ⊎ (self.new.ready ≡ Some key) }
+        ensures same { self.old.ready ≡ Some key → self.new.ready ≡ Some key }
+    {
+        if let Some(ready) = self.ready
+            && ready != key
+        {
+            self.forget_ready();
+        }
+    }
+
+    // Forgets the ready key, and gives back the room that was made for it.
+    #[inline(never)]
+    fn forget_ready(&mut self)
+        ensures { self.new ≡ record self.old { ready = None } }
+    {
+        if self.cache.cap() != self.flows {
+            drop(self.cache.pop_mru());
+            self.cache.resize(self.flows);
+        }
+        self.ready = None;
+    }
+}
+
+// Puts a pair in front, and then keeps so many pairs at most.
+fn put_within<K: FlowKey, V: Copy + Drop>(
+    cache: &mut LruCache<K, Option<V>>,
+    flows: NonZeroUsize,
+    key: K,
+    entry: V,
+) -> Result<(), OutOfMemory>
+    ensures put { OnOk result (cache.new ≡ lru_cache (take (non_zero_usize_get flows) (put_entries K.eq cache.old key (Some entry))) (non_zero_usize_get flows)) }
+    ensures err { OnErr result ((cache.new ≡ cache.old) × (lookup (K.eq key) cache.old.entries ≡ None)) }
+    ensures succeeds { IsSome (lookup (K.eq key) cache.old.entries) → IsOk result }
+{
+    cache.put(key, Some(entry))?;
+    cache.resize(flows);
+    Ok(())
+}
+
+// Puts a key that isn't there in front of all pairs, without an entry and with room for one pair more.
+fn make_room<K: FlowKey, V: Copy + Drop>(
+    cache: &mut LruCache<K, Option<V>>,
+    key: K,
+) -> Result<(), OutOfMemory>
+    requires fits { length cache.old.entries ≤ cache.old.cap }
+    requires few { cache.old.cap ≤ 2 ^ 17 }
+    ensures there { IsSome (lookup (K.eq key) cache.old.entries) → IsOk result × (cache.new ≡ cache.old) }
+    ensures new { lookup (K.eq key) cache.old.entries ≡ None → OnOk result (cache.new ≡ lru_cache ((key, None) ∷ cache.old.entries) (cache.old.cap + 1)) }
+    ensures err { OnErr result ((cache.new ≡ cache.old) × (lookup (K.eq key) cache.old.entries ≡ None)) }
+{
+    if cache.contains(&key) {
+        return Ok(());
+    }
+    let cap = cache.cap();
+    cache.resize(cap.saturating_add(1));
+    if cache.put(key, None).is_err() {
+        cache.resize(cap);
+        return Err(OutOfMemory);
+    }
+    Ok(())
+}
