@@ -1,5 +1,5 @@
 -- Each verdict of the token bucket has a name.
-use Rattle.std.specs.Prelude.{◌<◌, ℕ, List, not, refl}
+use Rattle.std.specs.Prelude.{◌<◌, List, not, refl}
 use Rattle.std.specs.Map.{lookup}
 use Rattle.std.proofs.lemmas.Bool.{ltb-true}
 use Rattle.scr_base.specs.declared.row.Row.{Row}
