@@ -1,0 +1,4 @@
+pub mod Rows
+pub mod Step
+pub mod State
+pub mod Named

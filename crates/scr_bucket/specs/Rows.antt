@@ -1,0 +1,33 @@
+-- The row of a packet for the token bucket, which looks at the flow of each IP packet and its time: both addresses and
+-- ports, the protocol, the family, the kind of the frame and the time, in their places of the seven words. A frame that
+-- isn't looked at has the row of seven zeros.
+use Rattle.std.specs.Prelude.{ℕ, if◌then◌else◌}
+use Rattle.scr_base.specs.declared.row.Row.{Row}
+use Rattle.scr_frame.specs.declared.parsed.Parsed.{Parsed}
+use Rattle.scr_program.specs.declared.fields.Fields.{Fields}
+use Rattle.scr_program.specs.declared.key.FiveTuple.{FiveTuple}
+use Rattle.scr_program.specs.Keys.{five_tuple_of}
+use Rattle.scr_program.specs.Kinds.{is_packet}
+use Rattle.scr_program.specs.Rows.{frame_fields, no_fields, packed, unpacked, zero_row}
+
+-- the fields that the token bucket keeps: the rest is 0
+abbrev pub fields_kept : Fields → Fields
+fields_kept fields = record no_fields {
+  source = fields.source;
+  destination = fields.destination;
+  source_port = fields.source_port;
+  destination_port = fields.destination_port;
+  protocol = fields.protocol;
+  kind = fields.kind;
+  time = fields.time;
+}
+
+-- the row of a frame that came at this time
+abbrev pub row_of : Parsed → ℕ → Row
+row_of frame time =
+    let fields = frame_fields frame time in
+    if is_packet fields.kind then packed (fields_kept fields) else zero_row
+
+-- the five-tuple in a row
+abbrev pub flow_in : Row → FiveTuple
+flow_in row = five_tuple_of (unpacked row)
