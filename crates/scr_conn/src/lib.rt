@@ -1,0 +1,14 @@
+//! Conn.
+#![tactic(auto)]
+
+mod class;
+mod conn;
+mod endpoint;
+mod entry;
+mod settings;
+mod table;
+
+pub use conn::Conn;
+pub use endpoint::{Connection, Endpoint, Side};
+pub use entry::{Entry, State};
+pub use settings::ConnSettings;
