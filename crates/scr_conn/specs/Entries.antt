@@ -34,11 +34,12 @@ direction_of High Low = Far
 direction_of High High = Near
 
 -- the cell of the table for an entry, or none, and a packet of this sender and these flags
-abbrev pub cell_of : Option Entry → Side → ℕ → Cell
-cell_of None sender flags = table None Near (class_of flags)
-cell_of (Some entry) sender flags = table (Some entry.state) (direction_of entry.side sender) (class_of flags)
+abbrev pub cell_for : Option Entry → Side → ℕ → Cell
+cell_for None sender flags = table None Near (class_of flags)
+cell_for (Some entry) sender flags = table (Some entry.state) (direction_of entry.side sender) (class_of flags)
 
--- the entry after a packet: the state of the cell, the sender as the side at a star or where there was no entry, and the greater time
+-- The entry that a cell makes of an entry, or of none. The side becomes the sender at a star, and where there was no
+-- entry. The time becomes the greater of both.
 abbrev pub changed : Cell → Option Entry → Side → ℕ → Option Entry
 changed Invalid known sender time = None
 changed (Plain state) None sender time = Some (record { state = state; side = sender; time = time })
@@ -51,4 +52,4 @@ abbrev pub next_entry : ℕ → Option Entry → Fields → Option Entry
 next_entry idle known fields =
     let entry = live idle fields.time known in
     let sender = sender_of fields in
-    changed (cell_of entry sender fields.flags) entry sender fields.time
+    changed (cell_for entry sender fields.flags) entry sender fields.time

@@ -1,5 +1,5 @@
 ghost use Rattle.std.specs.Prelude.{◌≡◌};
-ghost use Rattle.scr_conn.specs.Entries.{is_idle, live, direction_of, next_entry};
+ghost use Rattle.scr_conn.specs.Entries.{live, direction_of, cell_for, changed, next_entry};
 
 use crate::class::class_of;
 use crate::endpoint::{Side, sender_of};
@@ -33,32 +33,9 @@ pub(crate) fn next_entry(idle: u64, known: Option<Entry>, fields: &Fields) -> Op
     ensures { result ≡ next_entry idle known fields.now }
 {
     let sender = sender_of(fields);
-    let class = class_of(fields.flags);
-    let Some(entry) = live(idle, fields.time, known) else {
-        let first = |state: State| Entry {
-            state,
-            side: sender,
-            time: fields.time,
-        };
-        return match cell_of(None, Direction::Near, class) {
-            Cell::Invalid => None,
-            Cell::Plain(state) | Cell::Starred(state) => Some(first(state)),
-        };
-    };
-    let time = entry.time.max(fields.time);
-    match cell_of(Some(entry.state), direction_of(entry.side, sender), class) {
-        Cell::Invalid => None,
-        Cell::Plain(state) => Some(Entry {
-            state,
-            side: entry.side,
-            time,
-        }),
-        Cell::Starred(state) => Some(Entry {
-            state,
-            side: sender,
-            time,
-        }),
-    }
+    let old = live(idle, fields.time, known);
+    let cell = cell_for(old, sender, fields.flags);
+    changed(cell, old, sender, fields.time)
 }
 
 // An entry that was idle for too long counts as absent.
@@ -77,5 +54,40 @@ fn direction_of(side: Side, sender: Side) -> Direction
     match (side, sender) {
         (Side::Low, Side::Low) | (Side::High, Side::High) => Direction::Near,
         (Side::Low, Side::High) | (Side::High, Side::Low) => Direction::Far,
+    }
+}
+
+// The cell of the table for an entry, or none, and a packet of this sender and these flags.
+fn cell_for(old: Option<Entry>, sender: Side, flags: u8) -> Cell
+    ensures { result ≡ cell_for old sender flags }
+{
+    let class = class_of(flags);
+    match old {
+        Some(entry) => cell_of(Some(entry.state), direction_of(entry.side, sender), class),
+        None => cell_of(None, Direction::Near, class),
+    }
+}
+
+// The entry that this cell makes of an entry, or of none.
+fn changed(cell: Cell, old: Option<Entry>, sender: Side, time: u64) -> Option<Entry>
+    ensures { result ≡ changed cell old sender time }
+{
+    match (cell, old) {
+        (Cell::Invalid, _) => None,
+        (Cell::Plain(state), Some(entry)) => Some(Entry {
+            state,
+            side: entry.side,
+            time: entry.time.max(time),
+        }),
+        (Cell::Starred(state), Some(entry)) => Some(Entry {
+            state,
+            side: sender,
+            time: entry.time.max(time),
+        }),
+        (Cell::Plain(state) | Cell::Starred(state), None) => Some(Entry {
+            state,
+            side: sender,
+            time,
+        }),
     }
 }

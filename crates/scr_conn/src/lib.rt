@@ -7,6 +7,8 @@ mod endpoint;
 mod entry;
 mod settings;
 mod table;
+#[cfg(test)]
+mod tests;
 
 pub use conn::Conn;
 pub use endpoint::{Connection, Endpoint, Side};
