@@ -20,10 +20,10 @@ cells reset syn_ack syn fin ack Fin = fin
 cells reset syn_ack syn fin ack Ack = ack
 cells reset syn_ack syn fin ack Unmarked = Invalid
 
--- The rows, by the state, or none, and by whether the sender is the entry's side (near) or the other end (far). At a
--- star the sender becomes the side; elsewhere the side stays.
+-- The rows, by the state, or none, and by whether the sender is the entry's side (near) or the other end (far). Their
+-- cells are those of RST, SYN with ACK, SYN, FIN and ACK, in this order. At a star the sender becomes the side;
+-- elsewhere the side stays.
 abbrev pub table : Option State → Direction → Class → Cell
---                                RST             SYN and ACK          SYN                FIN                ACK
 table None _ = cells Invalid Invalid (Starred SynSent) Invalid Invalid
 table (Some SynSent) Near = cells (Plain Closed) Invalid (Plain SynSent) Invalid Invalid
 table (Some SynSent) Far = cells (Plain Closed) (Plain SynRecv) Invalid Invalid Invalid

@@ -18,6 +18,9 @@ use std::alloc::Global;
 /// The connection tracker: the verdict on a TCP segment is the state that it brings its connection to, or INVALID.
 pub struct Conn;
 
+// The kind that is looked at, as `Fields` numbers them.
+const TCP: u16 = 2;
+
 const INVALID: Verdict = Verdict(7);
 
 const OTHER: Verdict = Verdict(8);
@@ -108,7 +111,7 @@ impl Program for Conn {
 fn looks_at(kind: u16) -> bool
     ensures { result ≡ is_looked_at kind }
 {
-    kind == 2
+    kind == TCP
 }
 
 // The step on the flow table. A segment that isn't valid leaves it alone.
