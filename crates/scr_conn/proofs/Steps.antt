@@ -1,5 +1,5 @@
 -- The step of the tracker on a row that is looked at, and on another.
-use Rattle.std.proofs.Common.{◌≡◌, ◌∙◌, List, Bool, true, false, not, Option, refl, ap, sym, if◌then◌else◌}
+use Rattle.std.proofs.Common.{◌≡◌, ◌∙◌, List, Bool, true, false, not, Option, ap, sym, if◌then◌else◌}
 use Rattle.std.specs.Map.{lookup}
 use Rattle.scr_base.specs.declared.row.Row.{Row}
 use Rattle.scr_base.specs.declared.row.Verdict.{Verdict}

@@ -1,11 +1,9 @@
 -- The entry of a connection, and what a packet makes of it.
 use Rattle.std.specs.Prelude.{ℕ, ◌-◌, max, Bool, Option, Some, None, nat_lt, if◌then◌else◌}
-use Rattle.std.specs.Option.{option_map}
 use Rattle.scr_program.specs.declared.fields.Fields.{Fields}
 use Rattle.scr_conn.specs.declared.endpoint.Side.{Side}
 use Rattle.scr_conn.specs.declared.endpoint.Side.TheVariants.{Low, High}
 use Rattle.scr_conn.specs.declared.entry.Entry.{Entry}
-use Rattle.scr_conn.specs.declared.entry.State.{State}
 use Rattle.scr_conn.specs.declared.table.Cell.{Cell}
 use Rattle.scr_conn.specs.declared.table.Cell.TheVariants.{Invalid, Plain, Starred}
 use Rattle.scr_conn.specs.declared.table.Direction.{Direction}

@@ -1,5 +1,5 @@
 -- Each verdict of the tracker has a name.
-use Rattle.std.specs.Prelude.{◌<◌, ℕ, List, Bool, true, false, not, Option, Some, None, if◌then◌else◌}
+use Rattle.std.specs.Prelude.{◌<◌, ℕ, List, true, false, not, Option, Some, None, if◌then◌else◌}
 use Rattle.std.specs.Map.{lookup}
 use Rattle.std.proofs.Common.{lit<}
 use Rattle.scr_base.specs.declared.row.Row.{Row}

@@ -4,7 +4,7 @@ use Rattle.std.specs.Map.{lookup}
 use Rattle.scr_base.specs.declared.row.Row.{Row}
 use Rattle.scr_base.specs.declared.row.Verdict.{Verdict}
 use Rattle.scr_program.specs.FlowList.{set_key}
-use Rattle.scr_program.specs.Rows.{kind_in, unpacked}
+use Rattle.scr_program.specs.Rows.{unpacked}
 use Rattle.scr_conn.specs.Endpoints.{connection_of, is_same_connection}
 use Rattle.scr_conn.specs.Entries.{next_entry}
 use Rattle.scr_conn.specs.Rows.{is_looked_at}

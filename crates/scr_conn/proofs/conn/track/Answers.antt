@@ -1,5 +1,5 @@
 -- What a segment makes of the flow table is what the step makes of its list.
-use Rattle.std.proofs.Common.{◌≡◌, ◌∙◌, ℕ, List, true, false, Option, None, Some, sym, ap}
+use Rattle.std.proofs.Common.{◌≡◌, ◌∙◌, List, true, false, None, Some, sym, ap}
 use Rattle.scr_base.specs.declared.row.Verdict.{Verdict}
 use Rattle.scr_program.specs.FlowList.{set_key}
 use Rattle.scr_program.specs.Rows.{unpacked}
