@@ -1,0 +1,10 @@
+pub mod Endpoints
+pub mod Entries
+pub mod Flags
+pub mod Named
+pub mod Rows
+pub mod Same
+pub mod Stands
+pub mod Step
+pub mod Transitions
+pub mod Verdicts
