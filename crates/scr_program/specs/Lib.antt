@@ -1,6 +1,9 @@
+pub mod Choices
 pub mod Folds
 pub mod FlowList
 pub mod FlowTable
 pub mod Kept
 pub mod Keys
+pub mod Kinds
 pub mod Rows
+pub mod Settings

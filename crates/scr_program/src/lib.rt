@@ -1,9 +1,9 @@
 //! What the packet programs stand on: their trait, the rows that they read, and the table of flows that they keep.
 //!
 //! **What it does.** A [`Program`] makes a row of a frame and takes the rows one after another, with a verdict on each.
-//! [`fields_of`], [`pack`] and [`unpack`] turn a frame into fields and fields into a row and back. A [`FlowTable`]
-//! keeps the flows that were used last, over the cache of the crate `lru`, by keys such as an [`Address`] or a
-//! [`FiveTuple`].
+//! [`fields_of`], [`pack`] and [`unpack`] turn a frame into fields and fields into a row and back, and [`read_setting`]
+//! reads the value of a setting. A [`FlowTable`] keeps the flows that were used last, over the cache of the crate `lru`,
+//! by keys such as an [`Address`] or a [`FiveTuple`].
 //!
 //! **What a contract sees.** A program by six definitions over plain data: the row of a frame and a time, whether a
 //! state stands for a list of rows, the verdict of a row after a list, the count of entries after a list, whether a
@@ -25,12 +25,16 @@
 
 mod fields;
 mod key;
+mod kinds;
 mod program;
+mod setting;
 mod table;
 #[cfg(test)]
 mod tests;
 
 pub use fields::{Address, Fields, ZERO_ROW, fields_of, pack, unpack};
 pub use key::{FiveTuple, FlowKey};
+pub use kinds::is_packet;
 pub use program::Program;
+pub use setting::{SettingError, read_setting};
 pub use table::FlowTable;
