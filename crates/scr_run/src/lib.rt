@@ -29,7 +29,6 @@
 
 mod answer;
 mod fault_line;
-mod flood;
 mod report;
 mod status;
 #[cfg(test)]
