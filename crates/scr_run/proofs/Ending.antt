@@ -37,7 +37,7 @@ module _ (threshold : ℕ) (settings : DdosSettings) (given : List Given) (Stand
       let rows = rows_of (row_of settings) records in
       let verdicts = verdicts_of (verdict_after_rows settings) rows in
       let all : frames ≡ length records =
-          counted ∙ ap length given_are ∙ length-verdicts_of (verdict_after_rows settings) rows ∙ length-rows_of (row_of settings) records in
+      counted ∙ ap length given_are ∙ length-verdicts_of (verdict_after_rows settings) rows ∙ length-rows_of (row_of settings) records in
       record {
         threshold = threshold;
         built = built;

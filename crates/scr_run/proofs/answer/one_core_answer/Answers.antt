@@ -39,5 +39,11 @@ loop-core-preserved g c =
 pub returns-clause-few : goal.returns-clause-few
 returns-clause-few g c =
     let taken = c.loop-core.invariant.taken in
-    omega (arith, ap length taken.given_are, length-verdicts_of (g.P.Program.verdict_after c.args.settings.now) (rows_of (g.P.Program.row_of c.args.settings.now) taken.records),
-    length-rows_of (g.P.Program.row_of c.args.settings.now) taken.records, taken.count, c.loop-core.invariant.few)
+    omega (
+      arith,
+      ap length taken.given_are,
+      length-verdicts_of (g.P.Program.verdict_after c.args.settings.now) (rows_of (g.P.Program.row_of c.args.settings.now) taken.records),
+      length-rows_of (g.P.Program.row_of c.args.settings.now) taken.records,
+      taken.count,
+      c.loop-core.invariant.few,
+    )
