@@ -103,12 +103,14 @@ pub(crate) struct TableLine {
 
 impl Operand {
     /// The operand with this name.
+    #[tactic(auto, unfolding(crate::specs::Operands::operand_named))]
     pub(crate) fn named(name: &[u8]) -> Option<Operand>
         ensures { result ≡ operand_named name.now }
     {
         OPERANDS
-            .into_iter()
+            .iter()
             .find(|operand| operand.line().name == name)
+            .copied()
     }
 
     /// The operand's line in the table.
@@ -166,10 +168,14 @@ fn number(least: u64, greatest: u64) -> Form
 
 impl Command {
     /// The command with this name.
+    #[tactic(auto, unfolding(crate::specs::Operands::command_named))]
     pub(crate) fn named(name: &[u8]) -> Option<Command>
         ensures { result ≡ command_named name.now }
     {
-        COMMANDS.into_iter().find(|command| command.name() == name)
+        COMMANDS
+            .iter()
+            .find(|command| command.name() == name)
+            .copied()
     }
 
     fn name(self) -> &'static [u8]
@@ -185,10 +191,14 @@ impl Command {
 
 impl ProgramName {
     /// The program with this name.
+    #[tactic(auto, unfolding(crate::specs::Operands::program_named))]
     pub(crate) fn named(name: &[u8]) -> Option<ProgramName>
         ensures { result ≡ program_named name.now }
     {
-        PROGRAMS.into_iter().find(|program| program.name() == name)
+        PROGRAMS
+            .iter()
+            .find(|program| program.name() == name)
+            .copied()
     }
 
     fn name(self) -> &'static [u8]
