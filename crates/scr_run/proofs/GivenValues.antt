@@ -6,7 +6,7 @@ use Rattle.scr_run.specs.declared.command_words.operand.Operand.{Operand}
 use Rattle.scr_run.specs.declared.status.WordCause.{WordCause}
 use Rattle.scr_run.specs.Operands.{table}
 use Rattle.scr_run.specs.WordParts.{given}
-use Rattle.scr_run.specs.WordFaults.{value_fault, setting_fault}
+use Rattle.scr_run.specs.WordFaults.{value_fault, setting_fault, setting_cause}
 use Rattle.scr_run.specs.WordTests.{HaveFaultlessValues}
 use Rattle.scr_run.specs.GivenSettings.{value_for}
 
@@ -34,3 +34,11 @@ pub MatchResult-more : {A : Type 0} (read : Result A SettingError) (P Q : A → 
     → ((value : A) → P value → Q value) → MatchResult read P (λ refusal. ⊥) → MatchResult read Q (λ refusal. ⊥)
 MatchResult-more (Ok value) P Q follows reads = follows value reads
 MatchResult-more (Err error) P Q follows reads = reads
+
+-- a setting that is refused has the fault of the refusal
+pub setting_fault-refused : {A : Type 0} (read : Result A SettingError) (P : A → Type 0) (error : SettingError)
+    → ((value : A) → P value → ◌≡◌ {A = Result (Unit {0}) SettingError} (Err error) (Ok tt))
+    → MatchResult read P (λ refusal. ◌≡◌ {A = Result (Unit {0}) SettingError} (Err error) (Err refusal))
+    → setting_fault read ≡ Some (setting_cause error)
+setting_fault-refused (Ok value) P error taken set = let same = taken value set in absurd cc
+setting_fault-refused (Err refusal) P error taken set = cc

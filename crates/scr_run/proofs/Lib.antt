@@ -3,3 +3,5 @@ pub mod OneCore
 pub mod Progress
 pub mod Ending
 pub mod GivenValues
+pub mod DropListFaults
+pub mod OperandFaults

@@ -103,7 +103,6 @@ pub(crate) struct TableLine {
 
 impl Operand {
     /// The operand with this name.
-    #[tactic(auto, unfolding(crate::specs::Operands::operand_named))]
     pub(crate) fn named(name: &[u8]) -> Option<Operand>
         ensures { result ≡ operand_named name.now }
     {
@@ -191,7 +190,6 @@ impl Command {
 
 impl ProgramName {
     /// The program with this name.
-    #[tactic(auto, unfolding(crate::specs::Operands::program_named))]
     pub(crate) fn named(name: &[u8]) -> Option<ProgramName>
         ensures { result ≡ program_named name.now }
     {
