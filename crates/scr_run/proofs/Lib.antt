@@ -5,3 +5,4 @@ pub mod Ending
 pub mod GivenValues
 pub mod DropListFaults
 pub mod OperandFaults
+pub mod FaultlessWords
