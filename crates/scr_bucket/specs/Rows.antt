@@ -9,6 +9,7 @@ use Rattle.scr_program.specs.declared.key.FiveTuple.{FiveTuple}
 use Rattle.scr_program.specs.Keys.{five_tuple_of}
 use Rattle.scr_program.specs.Kinds.{is_packet}
 use Rattle.scr_program.specs.Rows.{frame_fields, no_fields, packed, unpacked, zero_row}
+use Rattle.scr_bucket.specs.declared.settings.BucketSettings.{BucketSettings}
 
 -- the fields that the token bucket keeps: the rest is 0
 abbrev pub fields_kept : Fields → Fields
@@ -23,8 +24,8 @@ fields_kept fields = record no_fields {
 }
 
 -- the row of a frame that came at this time
-abbrev pub row_of : Parsed → ℕ → Row
-row_of frame time =
+abbrev pub row_of : BucketSettings → Parsed → ℕ → Row
+row_of settings frame time =
     let fields = frame_fields frame time in
     if is_packet fields.kind then packed (fields_kept fields) else zero_row
 

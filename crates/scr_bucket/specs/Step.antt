@@ -8,6 +8,7 @@ use Rattle.scr_program.specs.FlowList.{set_key}
 use Rattle.scr_program.specs.Keys.{is_same_tuple}
 use Rattle.scr_program.specs.Kinds.{is_packet}
 use Rattle.scr_program.specs.Rows.{kind_in}
+use Rattle.scr_program.specs.Folds.{verdict_after, count_after}
 use Rattle.scr_bucket.specs.declared.settings.BucketSettings.{BucketSettings}
 use Rattle.scr_bucket.specs.declared.tokens.Tokens.{Tokens}
 use Rattle.scr_bucket.specs.Rows.{flow_in}
@@ -57,3 +58,11 @@ step settings flows row =
     (let flow = flow_in row in
     let outcome = taken (filled settings (lookup (is_same_tuple flow) flows) row.w5) in
     (set_key is_same_tuple settings.flows flows flow outcome.0, outcome.1))
+
+-- the verdict of a row that comes after these rows
+abbrev pub verdict_after_rows : BucketSettings → List Row → Row → Verdict
+verdict_after_rows settings rows row = verdict_after (step settings) rows row
+
+-- how many flows there are after these rows
+abbrev pub count_after_rows : BucketSettings → List Row → ℕ
+count_after_rows settings rows = count_after (step settings) rows

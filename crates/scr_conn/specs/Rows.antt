@@ -5,6 +5,7 @@ use Rattle.scr_frame.specs.declared.parsed.Kind.TheVariants.{Tcp}
 use Rattle.scr_frame.specs.declared.parsed.Parsed.{Parsed}
 use Rattle.scr_program.specs.Rows.{frame_fields, kind_number, no_fields, packed, zero_row}
 use Rattle.scr_program.specs.declared.fields.Fields.{Fields}
+use Rattle.scr_conn.specs.declared.settings.ConnSettings.{ConnSettings}
 
 -- only TCP is looked at
 abbrev pub is_looked_at : ℕ → Bool
@@ -23,7 +24,7 @@ tracked_fields fields = record no_fields {
   time = fields.time;
 }
 
-abbrev pub row_of : Parsed → ℕ → Row
-row_of frame time =
+abbrev pub row_of : ConnSettings → Parsed → ℕ → Row
+row_of settings frame time =
     let fields = frame_fields frame time in
     if is_looked_at fields.kind then packed (tracked_fields fields) else zero_row

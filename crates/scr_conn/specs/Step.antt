@@ -5,6 +5,7 @@ use Rattle.scr_base.specs.declared.row.Row.{Row}
 use Rattle.scr_base.specs.declared.row.Verdict.{Verdict}
 use Rattle.scr_program.specs.FlowList.{set_key}
 use Rattle.scr_program.specs.Rows.{unpacked}
+use Rattle.scr_program.specs.Folds.{verdict_after, count_after}
 use Rattle.scr_conn.specs.Endpoints.{connection_of, is_same_connection}
 use Rattle.scr_conn.specs.Entries.{next_entry}
 use Rattle.scr_conn.specs.Rows.{is_looked_at}
@@ -24,3 +25,11 @@ step settings flows row =
     let key = connection_of fields in
     if not (is_looked_at fields.kind) then (flows, OTHER)
     else entered settings.flows flows key (next_entry settings.idle (lookup (is_same_connection key) flows) fields)
+
+-- the verdict of a row that comes after these rows
+abbrev pub verdict_after_rows : ConnSettings → List Row → Row → Verdict
+verdict_after_rows settings rows row = verdict_after (step settings) rows row
+
+-- how many connections there are after these rows
+abbrev pub count_after_rows : ConnSettings → List Row → ℕ
+count_after_rows settings rows = count_after (step settings) rows

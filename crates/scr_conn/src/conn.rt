@@ -1,10 +1,9 @@
 ghost use Rattle.std.specs.Prelude.{◌≡◌, IfOk, OnErr, IsOk};
 ghost use Rattle.scr_conn.specs.Rows.{row_of, is_looked_at};
-ghost use Rattle.scr_conn.specs.Step.{step};
+ghost use Rattle.scr_conn.specs.Step.{step, verdict_after_rows, count_after_rows};
 ghost use Rattle.scr_conn.specs.Verdicts.{names, verdict_of};
 ghost use Rattle.scr_conn.specs.Stands.{StandsFor as stands_for, IsReadyFor};
 ghost use Rattle.scr_conn.specs.Named.{step-named};
-ghost use Rattle.scr_program.specs.Folds.{verdict_after, count_after};
 ghost use Rattle.scr_program.proofs.Folds.{verdict_after-named};
 
 use crate::endpoint::{Connection, connection_of};
@@ -30,13 +29,13 @@ impl Program for Conn {
 
     type State = FlowTable<Connection, Entry>;
 
-    ghost row_of = { λ settings frame time. row_of frame time };
+    ghost row_of = { row_of };
 
     ghost StandsFor = { stands_for };
 
-    ghost verdict_after = { λ settings rows row. verdict_after (step settings) rows row };
+    ghost verdict_after = { verdict_after_rows };
 
-    ghost count_after = { λ settings rows. count_after (step settings) rows };
+    ghost count_after = { count_after_rows };
 
     ghost IsReady = { IsReadyFor };
 

@@ -6,6 +6,7 @@ use Rattle.scr_frame.specs.declared.parsed.Parsed.{Parsed}
 use Rattle.scr_program.specs.declared.fields.Fields.{Fields}
 use Rattle.scr_program.specs.Kinds.{is_packet}
 use Rattle.scr_program.specs.Rows.{frame_fields, no_fields, packed, zero_row}
+use Rattle.scr_ddos.specs.declared.settings.DdosSettings.{DdosSettings}
 
 -- the fields that the flood counter keeps: the rest is 0
 abbrev pub fields_kept : Fields → Fields
@@ -16,7 +17,7 @@ fields_kept fields = record no_fields {
 }
 
 -- the row of a frame that came at this time
-abbrev pub row_of : Parsed → ℕ → Row
-row_of frame time =
+abbrev pub row_of : DdosSettings → Parsed → ℕ → Row
+row_of settings frame time =
     let fields = frame_fields frame time in
     if is_packet fields.kind then packed (fields_kept fields) else zero_row

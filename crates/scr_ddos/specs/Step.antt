@@ -8,6 +8,7 @@ use Rattle.scr_program.specs.FlowList.{set_key}
 use Rattle.scr_program.specs.Keys.{is_same_address}
 use Rattle.scr_program.specs.Kinds.{is_packet}
 use Rattle.scr_program.specs.Rows.{source_in, kind_in}
+use Rattle.scr_program.specs.Folds.{verdict_after, count_after}
 use Rattle.scr_ddos.specs.declared.settings.DdosSettings.{DdosSettings}
 
 -- the verdicts, by their places in the list of names
@@ -33,3 +34,11 @@ step settings flows row =
     if not (is_packet (kind_in row)) then (flows, OTHER) else
     (let count = count_with flows (source_in row) in
     (set_key is_same_address settings.flows flows (source_in row) count, if nat_lt settings.threshold count then DROP else PASS))
+
+-- the verdict of a row that comes after these rows
+abbrev pub verdict_after_rows : DdosSettings → List Row → Row → Verdict
+verdict_after_rows settings rows row = verdict_after (step settings) rows row
+
+-- how many sources are counted after these rows
+abbrev pub count_after_rows : DdosSettings → List Row → ℕ
+count_after_rows settings rows = count_after (step settings) rows

@@ -8,6 +8,7 @@ use Rattle.scr_program.specs.FlowList.{set_key}
 use Rattle.scr_program.specs.Keys.{is_same_tuple}
 use Rattle.scr_program.specs.Kinds.{is_packet}
 use Rattle.scr_program.specs.Rows.{kind_in}
+use Rattle.scr_program.specs.Folds.{verdict_after, count_after}
 use Rattle.scr_heavy.specs.declared.settings.HeavySettings.{HeavySettings}
 use Rattle.scr_heavy.specs.Rows.{flow_in}
 
@@ -34,3 +35,11 @@ step settings flows row =
     if not (is_packet (kind_in row)) then (flows, OTHER) else
     (let bytes = bytes_with flows (flow_in row) row.w6 in
     (set_key is_same_tuple settings.flows flows (flow_in row) bytes, if nat_le settings.bytes bytes then HEAVY else PASS))
+
+-- the verdict of a row that comes after these rows
+abbrev pub verdict_after_rows : HeavySettings → List Row → Row → Verdict
+verdict_after_rows settings rows row = verdict_after (step settings) rows row
+
+-- how many flows there are after these rows
+abbrev pub count_after_rows : HeavySettings → List Row → ℕ
+count_after_rows settings rows = count_after (step settings) rows

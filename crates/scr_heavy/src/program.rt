@@ -1,9 +1,8 @@
 ghost use Rattle.std.specs.Prelude.{◌≡◌, IfOk, IsOk, OnErr};
-ghost use Rattle.scr_program.specs.Folds.{verdict_after, count_after};
 ghost use Rattle.scr_program.proofs.Folds.{verdict_after-named};
 ghost use Rattle.scr_heavy.specs.Rows.{fields_kept, row_of};
 ghost use Rattle.scr_heavy.specs.State.{StandsFor as stands_for, IsReady as is_ready};
-ghost use Rattle.scr_heavy.specs.Step.{names, step};
+ghost use Rattle.scr_heavy.specs.Step.{names, step, verdict_after_rows, count_after_rows};
 ghost use Rattle.scr_heavy.specs.Named.{step-named};
 
 use crate::settings::HeavySettings;
@@ -30,13 +29,13 @@ impl Program for Heavy {
     /// How many bytes each flow has had.
     type State = FlowTable<FiveTuple, u64>;
 
-    ghost row_of = { λ settings frame time. row_of frame time };
+    ghost row_of = { row_of };
 
     ghost StandsFor = { stands_for };
 
-    ghost verdict_after = { λ settings rows row. verdict_after (step settings) rows row };
+    ghost verdict_after = { verdict_after_rows };
 
-    ghost count_after = { λ settings rows. count_after (step settings) rows };
+    ghost count_after = { count_after_rows };
 
     ghost IsReady = { is_ready };
 

@@ -5,6 +5,7 @@ use Rattle.scr_frame.specs.declared.parsed.Kind.TheVariants.{Tcp, Udp}
 use Rattle.scr_frame.specs.declared.parsed.Parsed.{Parsed}
 use Rattle.scr_program.specs.Rows.{frame_fields, kind_number, no_fields, packed, zero_row}
 use Rattle.scr_program.specs.declared.fields.Fields.{Fields}
+use Rattle.scr_knock.specs.declared.settings.KnockSettings.{KnockSettings}
 
 -- only TCP and UDP, which have ports, are looked at
 abbrev pub is_looked_at : ℕ → Bool
@@ -19,7 +20,7 @@ knock_fields fields = record no_fields {
   kind = fields.kind;
 }
 
-abbrev pub row_of : Parsed → ℕ → Row
-row_of frame time =
+abbrev pub row_of : KnockSettings → Parsed → ℕ → Row
+row_of settings frame time =
     let fields = frame_fields frame time in
     if is_looked_at fields.kind then packed (knock_fields fields) else zero_row

@@ -7,6 +7,7 @@ use Rattle.scr_program.specs.FlowList.{set_key}
 use Rattle.scr_program.specs.Keys.{is_same_address}
 use Rattle.scr_program.specs.Rows.{unpacked}
 use Rattle.scr_program.specs.declared.fields.Address.{Address}
+use Rattle.scr_program.specs.Folds.{verdict_after, count_after}
 use Rattle.scr_knock.specs.Places.{next_place}
 use Rattle.scr_knock.specs.Rows.{is_looked_at}
 use Rattle.scr_knock.specs.Verdicts.{verdict_at, OTHER}
@@ -24,3 +25,11 @@ step settings flows row =
     let place = place_of flows fields.source in
     if not (is_looked_at fields.kind) then (flows, OTHER)
     else (set_key is_same_address settings.flows flows fields.source (next_place settings place fields.destination_port), verdict_at place)
+
+-- the verdict of a row that comes after these rows
+abbrev pub verdict_after_rows : KnockSettings → List Row → Row → Verdict
+verdict_after_rows settings rows row = verdict_after (step settings) rows row
+
+-- how many sources there are after these rows
+abbrev pub count_after_rows : KnockSettings → List Row → ℕ
+count_after_rows settings rows = count_after (step settings) rows

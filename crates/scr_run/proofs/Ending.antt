@@ -3,61 +3,68 @@ use Rattle.std.proofs.Common.{◌≡◌, ℕ, ◌≤◌, List, length, Option, S
 use Rattle.std.specs.Io.KnownBytes.{Appends}
 use Rattle.scr_base.specs.Causes.{Rose}
 use Rattle.scr_base.specs.Streams.{AppendsPrefix}
+use Rattle.scr_base.specs.declared.row.Row.{Row}
 use Rattle.scr_pcap.specs.Records.{Record}
 use Rattle.scr_pcap.specs.Reading.{IsReading}
 use Rattle.scr_pcap.specs.declared.error.CaptureError.{CaptureError}
 use Rattle.scr_pcap.specs.declared.error.CaptureError.TheVariants as capture
-use Rattle.scr_run.specs.declared.flood.Address.{Address}
+use Rattle.scr_ddos.specs.declared.settings.DdosSettings.{DdosSettings}
+use Rattle.scr_ddos.specs.Rows.{row_of}
+use Rattle.scr_ddos.specs.Step.{verdict_after_rows, count_after_rows}
 use Rattle.scr_run.specs.declared.report.Given.{Given}
 use Rattle.scr_run.specs.declared.status.Status.{Status}
 use Rattle.scr_run.specs.declared.status.Status.TheVariants.{Done, Words, Capture, ReadFault, WriteFault, OutOfMemory, TooMany}
-use Rattle.scr_run.specs.Words.{IsBuilt}
-use Rattle.scr_run.specs.OneCore.{verdicts_of, flows_of}
+use Rattle.scr_run.specs.Words.{IsBuilt, HasThreshold}
+use Rattle.scr_run.specs.OneCore.{rows_of, verdicts_of}
 use Rattle.scr_run.specs.Report.{one_core_text, one_core_report}
 use Rattle.scr_run.specs.Answers.{HasReport, WritesReport, WritesFront, HasFault, status_of, IsUnlessOutOfMemory}
 use Rattle.scr_run.specs.Causes.{Ends}
-use Rattle.scr_run.proofs.OneCore.{length-verdicts_of}
+use Rattle.scr_run.proofs.OneCore.{length-rows_of, length-verdicts_of}
 
--- what the loop over a capture leaves
-abbrev pub HasAnswer : ℕ → List Given → List (Address × ℕ) → List ℕ → Type 0
-HasAnswer threshold given flows bytes = (records : List Record)
-    × IsReading bytes (Ok records) × (given ≡ verdicts_of threshold records) × (flows ≡ flows_of threshold records) × (length records ≤ 1000000)
+module _ (threshold : ℕ) (settings : DdosSettings) (given : List Given) (Stands : List Row → Type 0) (frames count : ℕ) where
+  -- what the loop over a capture leaves
+  abbrev pub HasAnswer : List ℕ → Type 0
+  HasAnswer bytes = (records : List Record)
+      × IsReading bytes (Ok records) × (given ≡ verdicts_of (verdict_after_rows settings) (rows_of (row_of settings) records))
+      × Stands (rows_of (row_of settings) records) × (length records ≤ 1000000)
 
--- the text that is written is the report
-report_is : (threshold : ℕ) (records : List Record) (given : List Given) (flows : List (Address × ℕ)) (frames count : ℕ)
-    → given ≡ verdicts_of threshold records → flows ≡ flows_of threshold records → frames ≡ length given → count ≡ length flows
-    → one_core_text given frames count ≡ one_core_report threshold records
-report_is threshold records given flows frames count given_are flows_are counted held =
-    let all : frames ≡ length records = counted ∙ ap length given_are ∙ length-verdicts_of threshold records in
-    let kept : count ≡ length (flows_of threshold records) = held ∙ ap length flows_are in
-    ap (λ (g : List Given). one_core_text g frames count) given_are
-    ∙ ap (λ (n : ℕ). one_core_text (verdicts_of threshold records) n count) all
-    ∙ ap (λ (n : ℕ). one_core_text (verdicts_of threshold records) (length records) n) kept
+  -- the text that is written is the report
+  has_report : (words : List (List ℕ)) (bytes : List ℕ)
+      → IsBuilt words threshold → HasThreshold settings threshold → HasAnswer bytes → frames ≡ length given
+      → ((rows : List Row) → Stands rows → count ≡ count_after_rows settings rows)
+      → HasReport words bytes (one_core_text given frames count)
+  has_report words bytes built have (records, reading, given_are, stands, few) counted held =
+      let rows = rows_of (row_of settings) records in
+      let verdicts = verdicts_of (verdict_after_rows settings) rows in
+      let all : frames ≡ length records =
+      counted ∙ ap length given_are ∙ length-verdicts_of (verdict_after_rows settings) rows ∙ length-rows_of (row_of settings) records in
+      record {
+        threshold = threshold;
+        built = built;
+        settings = settings;
+        settings_have = have;
+        records = records;
+        reading = reading;
+        report = ap (λ (g : List Given). one_core_text g frames count) given_are
+            ∙ ap (λ (n : ℕ). one_core_text verdicts n count) all
+            ∙ ap (λ (n : ℕ). one_core_text verdicts (length records) n) (held rows stands);
+      }
 
-has_report : (words : List (List ℕ)) (bytes : List ℕ) (threshold : ℕ) (given : List Given) (flows : List (Address × ℕ)) (frames count : ℕ)
-    → IsBuilt words threshold → HasAnswer threshold given flows bytes → frames ≡ length given → count ≡ length flows
-    → HasReport words bytes (one_core_text given frames count)
-has_report words bytes threshold given flows frames count built (records, reading, given_are, flows_are, few) counted held = record {
-  threshold = threshold;
-  built = built;
-  records = records;
-  reading = reading;
-  report = report_is threshold records given flows frames count given_are flows_are counted held;
-}
+  pub WritesReport-from : (words : List (List ℕ)) (left before now : Option (List ℕ))
+      → IsBuilt words threshold → HasThreshold settings threshold → IfSome left HasAnswer → frames ≡ length given
+      → ((rows : List Row) → Stands rows → count ≡ count_after_rows settings rows)
+      → Appends before now (one_core_text given frames count) → WritesReport words left before now
+  WritesReport-from words None before now built have answer counted held gained = tt
+  WritesReport-from words (Some bytes) before now built have answer counted held gained =
+      (one_core_text given frames count, has_report words bytes built have answer counted held, gained)
 
-pub WritesReport-from : (words : List (List ℕ)) (left before now : Option (List ℕ)) (threshold : ℕ) (given : List Given) (flows : List (Address × ℕ)) (frames count : ℕ)
-    → IsBuilt words threshold → IfSome left (HasAnswer threshold given flows) → frames ≡ length given → count ≡ length flows
-    → Appends before now (one_core_text given frames count) → WritesReport words left before now
-WritesReport-from words None before now threshold given flows frames count built answer counted held gained = tt
-WritesReport-from words (Some bytes) before now threshold given flows frames count built answer counted held gained =
-    (one_core_text given frames count, has_report words bytes threshold given flows frames count built answer counted held, gained)
-
-pub WritesFront-from : (words : List (List ℕ)) (left before now : Option (List ℕ)) (threshold : ℕ) (given : List Given) (flows : List (Address × ℕ)) (frames count : ℕ)
-    → IsBuilt words threshold → IfSome left (HasAnswer threshold given flows) → frames ≡ length given → count ≡ length flows
-    → AppendsPrefix before now (one_core_text given frames count) → WritesFront words left before now
-WritesFront-from words None before now threshold given flows frames count built answer counted held front = tt
-WritesFront-from words (Some bytes) before now threshold given flows frames count built answer counted held front =
-    (one_core_text given frames count, has_report words bytes threshold given flows frames count built answer counted held, front)
+  pub WritesFront-from : (words : List (List ℕ)) (left before now : Option (List ℕ))
+      → IsBuilt words threshold → HasThreshold settings threshold → IfSome left HasAnswer → frames ≡ length given
+      → ((rows : List Row) → Stands rows → count ≡ count_after_rows settings rows)
+      → AppendsPrefix before now (one_core_text given frames count) → WritesFront words left before now
+  WritesFront-from words None before now built have answer counted held front = tt
+  WritesFront-from words (Some bytes) before now built have answer counted held front =
+      (one_core_text given frames count, has_report words bytes built have answer counted held, front)
 
 -- A run by its answer, seen by the parts of its contract that tell when each answer comes.
 module _ {S O : Type 0} (left : S → Option (List ℕ)) (faults : S → ℕ) (written : O → Option (List ℕ)) (write_faults : O → ℕ) (words : List (List ℕ)) where

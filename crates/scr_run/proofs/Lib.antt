@@ -1,4 +1,3 @@
-pub mod FlowList
 pub mod OneCore
 pub mod Progress
 pub mod Ending

@@ -1,69 +1,53 @@
 -- How far one core has come in a capture.
 use Rattle.std.proofs.Common.{◌≡◌, ℕ, ◌+◌, List, [], ◌∷◌, ◌++◌, length, drop, Option, Some, Ok, IfSome, sym, ap, ◌∙◌, subst, arith}
 use Rattle.std.proofs.lemmas.List.{length_push}
+use Rattle.scr_base.specs.declared.row.Row.{Row}
+use Rattle.scr_base.specs.declared.row.Verdict.{Verdict}
+use Rattle.scr_frame.specs.declared.parsed.Parsed.{Parsed}
 use Rattle.scr_frame.specs.Fields.{fields}
 use Rattle.scr_pcap.specs.declared.format.Format.{Format}
 use Rattle.scr_pcap.specs.Header.{header_of}
 use Rattle.scr_pcap.specs.Records.{Record, TakesRecord, TakesRecords}
 use Rattle.scr_pcap.proofs.Joining.{TakesRecords-push}
-use Rattle.scr_run.specs.declared.flood.Address.{Address}
 use Rattle.scr_run.specs.declared.report.Given.{Given}
-use Rattle.scr_run.specs.Flood.{step}
-use Rattle.scr_run.specs.Rows.{flood_row}
-use Rattle.scr_run.specs.OneCore.{verdicts_of, flows_of}
-use Rattle.scr_run.proofs.OneCore.{verdicts_of-push, flows_of-push}
+use Rattle.scr_run.specs.OneCore.{rows_of, verdicts_of}
+use Rattle.scr_run.proofs.OneCore.{rows_of-push, length-rows_of, verdicts_of-push}
 
--- so many records were taken from what was left, and the core has given their verdicts
-pub record HasTaken (threshold : ℕ) (format : Format) (taken : ℕ) (old now : Option (List ℕ)) (given : List Given) (flows : List (Address × ℕ)) : Type 0 where
-  pub begun : Option (List ℕ)
-  pub header : IfSome old (λ bytes. (header_of bytes ≡ Ok format) × (begun ≡ Some (drop 24 bytes)))
-  pub records : List Record
-  pub count : length records ≡ taken
-  pub read : TakesRecords format begun now records
-  pub given_are : given ≡ verdicts_of threshold records
-  pub flows_are : flows ≡ flows_of threshold records
+module _ (row_of : Parsed → ℕ → Row) (verdict_after : List Row → Row → Verdict) where
+  -- so many records were taken from what was left, and the core has given their verdicts
+  pub record HasTaken (Stands : List Row → Type 0) (format : Format) (taken : ℕ) (old now : Option (List ℕ)) (given : List Given) : Type 0 where
+    pub begun : Option (List ℕ)
+    pub header : IfSome old (λ bytes. (header_of bytes ≡ Ok format) × (begun ≡ Some (drop 24 bytes)))
+    pub records : List Record
+    pub count : length records ≡ taken
+    pub read : TakesRecords format begun now records
+    pub given_are : given ≡ verdicts_of verdict_after (rows_of row_of records)
+    pub stands : Stands (rows_of row_of records)
 
--- one record more
-pub HasTaken-more : (threshold : ℕ) (format : Format) (taken : ℕ) (old middle now : Option (List ℕ)) (given : List Given) (flows : List (Address × ℕ)) (r : Record) (number : ℕ)
-    → HasTaken threshold format taken old middle given flows → number ≡ taken + 1 → TakesRecord format middle now r
-    → HasTaken threshold format number old now
-    (given ++ record { number = number; verdict = (step threshold flows (flood_row (fields r.content))).1 } ∷ [])
-    (step threshold flows (flood_row (fields r.content))).0
-HasTaken-more threshold format taken old middle now given flows r number so_far next one =
-    let numbered : number ≡ length so_far.records + 1 = next ∙ ap (λ (n : ℕ). n + 1) (sym so_far.count) in
-    record {
-      begun = so_far.begun;
-      header = so_far.header;
-      records = so_far.records ++ r ∷ [];
-      count = omega (arith, length_push so_far.records r, numbered);
-      read = TakesRecords-push format so_far.begun middle now so_far.records r so_far.read one;
-      given_are =
-          ap (λ (t : List Given). t ++ record { number = number; verdict = (step threshold flows (flood_row (fields r.content))).1 } ∷ []) so_far.given_are
-          ∙ ap (λ (f : List (Address × ℕ)). verdicts_of threshold so_far.records ++ record { number = number; verdict = (step threshold f (flood_row (fields r.content))).1 } ∷ []) so_far.flows_are
-          ∙ sym (verdicts_of-push threshold so_far.records r number numbered);
-      flows_are =
-          ap (λ (f : List (Address × ℕ)). (step threshold f (flood_row (fields r.content))).0) so_far.flows_are
-          ∙ sym (flows_of-push threshold so_far.records r);
-    }
-
--- the same, where the core's own threshold, the frame's bytes and what was left are told by equations
-pub HasTaken-step : (threshold own : ℕ) (format format' : Format) (taken taken' : ℕ) (old middle now : Option (List ℕ)) (given given' : List Given) (flows flows' : List (Address × ℕ))
-    → (r : Record) (frame : List ℕ) (number : ℕ)
-    → HasTaken threshold format taken old middle given flows → own ≡ threshold → frame ≡ r.content → number ≡ taken + 1 → TakesRecord format middle now r
-    → format' ≡ format → taken' ≡ number
-    → given' ≡ given ++ record { number = number; verdict = (step own flows (flood_row (fields frame))).1 } ∷ []
-    → flows' ≡ (step own flows (flood_row (fields frame))).0
-    → HasTaken threshold format' taken' old now given' flows'
-HasTaken-step threshold own format format' taken taken' old middle now given given' flows flows' r frame number so_far same bytes next one e_format e_taken e_given e_flows =
-    let more = HasTaken-more threshold format taken old middle now given flows r number so_far next one in
-    record {
-      begun = more.begun;
-      header = subst (λ (f : Format). IfSome old (λ bytes. (header_of bytes ≡ Ok f) × (more.begun ≡ Some (drop 24 bytes)))) (sym e_format) more.header;
-      records = more.records;
-      count = more.count ∙ sym e_taken;
-      read = subst (λ (f : Format). TakesRecords f more.begun now more.records) (sym e_format) more.read;
-      given_are = e_given ∙ ap (λ (t : ℕ). given ++ record { number = number; verdict = (step t flows (flood_row (fields frame))).1 } ∷ []) same
-          ∙ ap (λ (b : List ℕ). given ++ record { number = number; verdict = (step threshold flows (flood_row (fields b))).1 } ∷ []) bytes ∙ more.given_are;
-      flows_are = e_flows ∙ ap (λ (t : ℕ). (step t flows (flood_row (fields frame))).0) same
-          ∙ ap (λ (b : List ℕ). (step threshold flows (flood_row (fields b))).0) bytes ∙ more.flows_are;
-    }
+  -- one record more; the frame's bytes, the reader's state and what the core did are told by equations
+  pub HasTaken-more : (Stands After : List Row → Type 0) (format format' : Format) (taken taken' : ℕ) (old middle now : Option (List ℕ)) (given given' : List Given)
+      → (r : Record) (frame : List ℕ) (number time : ℕ)
+      → HasTaken Stands format taken old middle given → frame ≡ r.content → time ≡ r.time → number ≡ taken + 1 → TakesRecord format middle now r
+      → format' ≡ format → taken' ≡ number
+      → ((rows : List Row) → Stands rows → given' ≡ given ++ record { number = number; verdict = verdict_after rows (row_of (fields frame) time) } ∷ [])
+      → ((rows : List Row) → Stands rows → After (rows ++ row_of (fields frame) time ∷ []))
+      → HasTaken After format' taken' old now given'
+  HasTaken-more Stands After format format' taken taken' old middle now given given' r frame number time so_far bytes at next one e_format e_taken gives steps =
+      let rows = rows_of row_of so_far.records in
+      let row = row_of (fields frame) time in
+      let row_is : row ≡ row_of (fields r.content) r.time = ap (λ (b : List ℕ). row_of (fields b) time) bytes ∙ ap (λ (t : ℕ). row_of (fields r.content) t) at in
+      let rows_are : rows ++ row ∷ [] ≡ rows_of row_of (so_far.records ++ r ∷ []) = ap (λ (w : Row). rows ++ w ∷ []) row_is ∙ sym (rows_of-push row_of so_far.records r) in
+      let numbered : number ≡ length rows + 1 = omega (arith, next, so_far.count, length-rows_of row_of so_far.records) in
+      record {
+        begun = so_far.begun;
+        header = subst (λ (f : Format). IfSome old (λ bytes. (header_of bytes ≡ Ok f) × (so_far.begun ≡ Some (drop 24 bytes)))) (sym e_format) so_far.header;
+        records = so_far.records ++ r ∷ [];
+        count = omega (arith, length_push so_far.records r, so_far.count, next, e_taken);
+        read = subst (λ (f : Format). TakesRecords f so_far.begun now (so_far.records ++ r ∷ [])) (sym e_format)
+            (TakesRecords-push format so_far.begun middle now so_far.records r so_far.read one);
+        given_are = gives rows so_far.stands
+            ∙ ap (λ (t : List Given). t ++ record { number = number; verdict = verdict_after rows row } ∷ []) so_far.given_are
+            ∙ sym (verdicts_of-push verdict_after rows row number numbered)
+            ∙ ap (verdicts_of verdict_after) rows_are;
+        stands = subst After rows_are (steps rows so_far.stands);
+      }

@@ -10,16 +10,19 @@ use Rattle.scr_run.specs.declared.status.Status.{Status}
 use Rattle.scr_run.specs.declared.status.Status.TheVariants.{Capture, ReadFault, OutOfMemory, TooMany}
 use Rattle.scr_run.specs.declared.status.WordFault.{WordFault}
 use Rattle.scr_run.specs.declared.status.WordCause.TheVariants.{NotBuilt}
-use Rattle.scr_run.specs.Words.{IsBuilt}
+use Rattle.scr_ddos.specs.declared.settings.DdosSettings.{DdosSettings}
+use Rattle.scr_run.specs.Words.{IsBuilt, HasThreshold}
 use Rattle.scr_run.specs.Report.{one_core_report}
 
 -- the words are built, the bytes of the capture are whole records, and this is the report of the one-core answer
 pub record HasReport (words : List (List ℕ)) (bytes : List ℕ) (text : List ℕ) : Type 0 where
   pub threshold : ℕ
   pub built : IsBuilt words threshold
+  pub settings : DdosSettings
+  pub settings_have : HasThreshold settings threshold
   pub records : List Record
   pub reading : IsReading bytes (Ok records)
-  pub report : text ≡ one_core_report threshold records
+  pub report : text ≡ one_core_report settings records
 
 -- a sink gained the whole report of the capture whose bytes were left
 abbrev pub WritesReport : List (List ℕ) → Option (List ℕ) → Option (List ℕ) → Option (List ℕ) → Type 0

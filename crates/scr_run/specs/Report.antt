@@ -6,11 +6,14 @@ use Rattle.scr_base.specs.declared.row.Verdict.{Verdict}
 use Rattle.scr_pcap.specs.Records.{Record}
 use Rattle.scr_run.specs.declared.report.Given.{Given}
 use Rattle.scr_run.specs.declared.report.CoreCounts.{CoreCounts}
-use Rattle.scr_run.specs.OneCore.{verdicts_of, flows_of}
+use Rattle.scr_ddos.specs.declared.settings.DdosSettings.{DdosSettings}
+use Rattle.scr_ddos.specs.Rows.{row_of}
+use Rattle.scr_ddos.specs.Step.{names, verdict_after_rows, count_after_rows}
+use Rattle.scr_run.specs.OneCore.{rows_of, verdicts_of}
 
 -- the names of the flood counter's verdicts, in the order of their numbers
 abbrev pub NAMES : List (List ℕ)
-NAMES = codes "PASS" ∷ codes "DROP" ∷ codes "OTHER" ∷ []
+NAMES = names
 
 abbrev pub name_of : Verdict → List ℕ
 name_of verdict = slice_index_or NAMES verdict.0 []
@@ -62,7 +65,8 @@ all_kept frames = record { delivered = frames; carried = frames; recovered = 0; 
 abbrev pub one_core_text : List Given → ℕ → ℕ → List ℕ
 one_core_text given frames flows = report_text given frames frames frames (all_kept frames ∷ []) flows
 
--- the report of a capture
-abbrev pub one_core_report : ℕ → List Record → List ℕ
-one_core_report threshold records =
-    one_core_text (verdicts_of threshold records) (length records) (length (flows_of threshold records))
+-- the report of a capture under the flood counter
+abbrev pub one_core_report : DdosSettings → List Record → List ℕ
+one_core_report settings records =
+    let rows = rows_of (row_of settings) records in
+    one_core_text (verdicts_of (verdict_after_rows settings) rows) (length records) (count_after_rows settings rows)

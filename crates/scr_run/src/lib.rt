@@ -1,14 +1,14 @@
 //! The run of `scr`, from the words of the command line to the report.
 //!
-//! **What it does.** [`scr_main`] tests the words, reads a capture to its end, lets one core count the packets of each
-//! source address, and writes a verdict for each frame and then the counters. Where a run ends otherwise, it writes a
+//! **What it does.** [`scr_main`] tests the words, reads a capture to its end, lets one core take its packets through
+//! the flood counter, and writes a verdict for each frame and then the counters. Where a run ends otherwise, it writes a
 //! line about it to a second sink. A [`Status`] tells how it ended and has the exit code, and [`write_fault_line`]
 //! writes the line of any status.
 //!
 //! **What a contract sees.** Words, captures, reports and lines as lists of bytes, and streams as scr_base has them, by
 //! what is left or written and by counts of failures and wants. The answer is defined from the records of a capture:
-//! their rows (specs/Rows.antt), the counter's step over a list of pairs, the source seen last in front
-//! (specs/Flood.antt), its fold over all rows (specs/OneCore.antt) and the text of that (specs/Report.antt).
+//! their rows, the program's verdict on each row after those before it (specs/OneCore.antt), and the text of that
+//! (specs/Report.antt). The loop over the records sees a program by its trait alone.
 //!
 //! **What is proved.** A run that is done has read the whole capture and written exactly the report of its records.
 //! What stands at any other end is a front of that report, and nothing before the capture was read to its end. Words
@@ -22,7 +22,7 @@
 //!
 //! **Limits.** The words are `run`, `program=ddos` and `threshold=` with a number from 0 to 4,294,967,295, in this order;
 //! all others are refused at the first. One core takes all frames. It knows 4,096 sources, and forgets the one seen
-//! longest ago; it looks for a source from the latest on. The verdicts are held in memory until the capture ends, at
+//! longest ago. The verdicts are held in memory until the capture ends, at
 //! most a million. Where a stream doesn't tell its bytes, as the standard streams don't, contracts speak of its counts
 //! alone.
 #![tactic(auto)]
@@ -30,7 +30,6 @@
 mod answer;
 mod command_words;
 mod fault_line;
-mod flood;
 mod report;
 mod status;
 #[cfg(test)]

@@ -17,6 +17,8 @@ use crate::report::write_report;
 use crate::status::{Status, WordCause, WordFault};
 use crate::words::threshold_of;
 use scr_base::{Sink, SinkError, Source, Word};
+use scr_ddos::{Ddos, DdosSettings};
+use scr_program::Program;
 use std::alloc::Global;
 
 // The one refusal of words: all that isn't built is refused at the first.
@@ -24,6 +26,9 @@ const NOT_BUILT: WordFault = WordFault {
     word: 1,
     cause: WordCause::NotBuilt,
 };
+
+// How many sources are counted at most.
+const FLOWS: u32 = 4096;
 
 /// All that the program does: it tests the words, reads the capture to its end, lets one core take its packets, and
 /// writes the report to `out`. Where the run ends otherwise, it writes the line of the status to `err`.
@@ -93,12 +98,16 @@ fn run<S: Source, O: Sink>(alloc: Global, words: &[Word], capture: &mut S, out: 
     let Some(threshold) = threshold_of(words) else {
         return Status::Words(NOT_BUILT);
     };
-    let core = match one_core_answer(alloc, threshold, capture) {
+    let settings = DdosSettings {
+        threshold: threshold.into(),
+        flows: FLOWS,
+    };
+    let core = match one_core_answer::<Ddos, S>(alloc, &settings, capture) {
         Ok(core) => core,
         Err(status) => return status,
     };
     let frames = core.given.len() as u32;
-    let flows = core.counter.flows.len() as u64;
+    let flows = Ddos::flows(&settings, &core.state);
     match write_report(out, &core.given, frames, flows) {
         Ok(()) => Status::Done,
         Err(SinkError::Failed) => Status::WriteFault,

@@ -5,10 +5,9 @@ use Rattle.scr_run.proofs.answer.one_core_answer.Given as goal
 
 abbrev pub invariant-loop-core : goal.invariant-loop-core
 invariant-loop-core g l = record {
-  taken : HasTaken l.fn.threshold l.reader.format l.reader.taken (g.S.Source.left l.fn.capture) (g.S.Source.left l.capture) l.core.given.items l.core.counter.flows.items;
+  taken : HasTaken (g.P.Program.row_of l.settings) (g.P.Program.verdict_after l.settings) (g.P.Program.StandsFor l.settings l.core.state) l.reader.format l.reader.taken (g.S.Source.left l.fn.capture) (g.S.Source.left l.capture) l.core.given.items;
   reading : l.reader.progress ≡ Reading;
   few : l.reader.taken ≤ 1000000;
-  threshold : l.core.counter.threshold ≡ l.fn.threshold;
   faults : g.S.Source.faults l.fn.capture ≤ g.S.Source.faults l.capture;
 }
 

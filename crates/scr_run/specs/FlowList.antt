@@ -1,8 +1,0 @@
--- A flow table as a list of pairs of a key and an entry, the most recently used first.
-use Rattle.std.specs.Prelude.{ℕ, Bool, List, ◌∷◌, take}
-use Rattle.std.specs.Map.{remove_entry}
-
--- To set a key: its old pair goes, if there is one, and the new pair comes to the front. Where a table that may have
--- so many pairs was full and the key is new, the last pair is dropped.
-abbrev pub set_key : {K V : Type 0} → (K → K → Bool) → ℕ → List (K × V) → K → V → List (K × V)
-set_key same limit flows key entry = take limit ((key, entry) ∷ remove_entry (same key) flows)
