@@ -40,7 +40,7 @@ impl<'a> Lines<'a> {
     pub fn line(&self) -> &'a [u8]
         ensures { result.now ≡ first_line self.now.text }
     {
-        &self.text[..self.length_of_line]
+        self.text.split_at(self.length_of_line).0
     }
 
     // Goes to the next line. A line that is allowed has two bytes at least.
@@ -48,8 +48,9 @@ impl<'a> Lines<'a> {
         requires { 2 ≤ length (first_line self.old.text) }
         ensures { GoesPast self.old self.new (first_line self.old.text ∷ []) }
     {
-        self.text = &self.text[self.length_of_line..];
-        self.length_of_line = length_of_line(self.text);
+        let (_, text) = self.text.split_at(self.length_of_line);
+        self.text = text;
+        self.length_of_line = length_of_line(text);
         self.number += 1;
     }
 
