@@ -114,8 +114,8 @@ pub decimal-read : (ds : List ℕ) (greatest : ℕ) (r : Result ℕ NumberError)
     → (1 < length ds → get_or ds 0 0 ≡ 48 → ⊥) → r ≡ number_within ds 0 greatest
     → MatchOption (result_ok r) ((n : ℕ) → n ≤ greatest → ds ≢ decimal n) (λ n. (n ≤ greatest) × (ds ≡ decimal n))
 decimal-read ds greatest (Ok n) small all no_zero read =
-    let is = chosen-ok _ _ _ _ read in
-    let far = or_parts _ _ is.1 in
+    let is : (not (is_number ds) ≡ false) × ((ltb (number_of ds) 0 || ltb greatest (number_of ds)) ≡ false) × (n ≡ number_of ds) = chosen-ok _ _ _ _ read in
+    let far : (ltb (number_of ds) 0 ≡ false) × (ltb greatest (number_of ds) ≡ false) = or_parts _ _ is.1 in
     let some : 0 < length ds = grind (arith, nat_tests) in
     let fits : number_of ds ≤ greatest = ltb-false greatest (number_of ds) far.1 in
     let one : get_or ds 0 0 ≡ 48 → length ds ≡ 1 = λ zero_first. grind (arith, no_zero) in
@@ -126,7 +126,7 @@ decimal-read ds greatest (Err e) small all no_zero read = λ n fits same.
     let below : n < 2 ^ 64 = omega arith in
     let some : 0 < length ds = omega (arith, ap length same, decimal_nonempty n below) in
     let good : not (is_number ds) ≡ false = grind (arith, nat_tests) in
-    let far = chosen-err _ _ _ _ read good in
+    let far : (ltb (number_of ds) 0 || ltb greatest (number_of ds)) ≡ true = chosen-err _ _ _ _ read good in
     let value : digits_value 10 ds ≡ n = ap (digits_value 10) same ∙ digits_value-decimal own n below in
     elim (or_cases (ltb (number_of ds) 0) (ltb greatest (number_of ds)) far) [
       | inl low ↦ (omega (arith, ltb-true _ _ low))
