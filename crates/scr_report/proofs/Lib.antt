@@ -1,3 +1,6 @@
 pub mod Numbers
 pub mod Cutting
 pub mod LineKinds
+pub mod Stages
+pub mod Refusals
+pub mod OneReading

@@ -46,7 +46,8 @@ impl<'a> Lines<'a> {
     // Goes to the next line. A line that is allowed has two bytes at least.
     pub fn pass(&mut self)
         requires { 2 ≤ length (first_line self.old.text) }
-        ensures { GoesPast self.old self.new (first_line self.old.text ∷ []) }
+        ensures past { GoesPast self.old self.new (first_line self.old.text ∷ []) }
+        ensures shorter { length self.new.text < length self.old.text }
     {
         let (_, text) = self.text.split_at(self.length_of_line);
         self.text = text;

@@ -7,8 +7,8 @@ use Rattle.scr_report.proofs.lines.Lines.pass.Goals as goal
 pub split_at-requires : goal.split_at-requires
 split_at-requires c = omega (arith, first-within c.self.inside.text.now, c.self.invariant.0)
 
-pub returns : goal.returns
-returns c =
+pub returns-clause-past : goal.returns-clause-past
+returns-clause-past c =
     let text : List ℕ = c.self.inside.text.now in
     let lost : c.split_at.result.1.now ≡ drop (length (first_line text)) text =
     c.split_at.ensures.back ∙ ap (λ (n : ℕ). drop n text) c.self.invariant.0 in
@@ -19,3 +19,9 @@ returns c =
       parts = parted ∙ ap (λ (t : List ℕ). first_line text ∷ lines_in t) (sym lost);
       count = refl;
     })
+
+pub returns-clause-shorter : goal.returns-clause-shorter
+returns-clause-shorter c =
+    let text : List ℕ = c.self.inside.text.now in
+    let length_is : 2 ≤ length (first_line text) = omega (arith, c.requires, ap (λ (cursor : Cursor). length (first_line cursor.text)) c.self.view_is) in
+    omega (arith, c.self.invariant.0, c.split_at.ensures.back_len, length_is, ap (λ (cursor : Cursor). length cursor.text) c.self.view_is)

@@ -1,0 +1,2 @@
+-- Bytes are read in one way.
+use Rattle.std.proofs.Common.{◌≡◌}
