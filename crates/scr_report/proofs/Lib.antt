@@ -4,3 +4,4 @@ pub mod LineKinds
 pub mod Stages
 pub mod Refusals
 pub mod OneReading
+pub mod Ends

@@ -33,7 +33,7 @@ pub record GoesOn (names : List (List ℕ)) (last : ℕ) (verdicts all : List Gi
   pub follow : FollowOn names (last_number last verdicts) more
   pub others_are : others ≡ map (verdict_line names) more ++ counters
 
-goes-on : (names : List (List ℕ)) (last f d k : ℕ) (verdicts all : List Given) (counters others : List (List ℕ))
+pub goes-on : (names : List (List ℕ)) (last f d k : ℕ) (verdicts all : List Given) (counters others : List (List ℕ))
     → FollowOn names last verdicts → FollowOn names last all
     → map (verdict_line names) all ++ (frames_line f d k ∷ counters) ≡ map (verdict_line names) verdicts ++ others
     → GoesOn names last verdicts all (frames_line f d k ∷ counters) others
@@ -79,7 +79,7 @@ cores-go-on first flows (x ∷ cores) (y ∷ all) rest others few each each_all 
     }
 
 -- behind the lines of some names: with those of the other names
-totals-go-on : (names : List (List ℕ)) (some totals : List ℕ) (others : List (List ℕ)) → length totals ≡ length names → length some ≤ length names
+pub totals-go-on : (names : List (List ℕ)) (some totals : List ℕ) (others : List (List ℕ)) → length totals ≡ length names → length some ≤ length names
     → map total_line (zip names totals) ≡ map total_line (zip names some) ++ others
     → others ≡ map total_line (zip (drop (length some) names) (drop (length some) totals))
 totals-go-on [] [] totals others all few same = sym same
@@ -222,7 +222,7 @@ begins names verdicts f d k cores flows totals read are =
         few_cores = read.few;
         cores = read.each;
         flows = are.flows_fit;
-        a_total_each = length-append totals zeros ∙ omega (arith, length-replicate (length names - length totals) 0, are.no_more);
+        a_total_each = length-append totals zeros ∙ omega (arith, length-replicate {A = ℕ} (length names - length totals) 0, are.no_more);
         totals = All-append Small totals zeros are.fit (All-replicate Small (length names - length totals) 0 (omega arith));
       };
       parts =
