@@ -5,3 +5,4 @@ pub mod Stages
 pub mod Refusals
 pub mod OneReading
 pub mod Ends
+pub mod Written
