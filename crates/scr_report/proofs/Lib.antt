@@ -6,3 +6,4 @@ pub mod Refusals
 pub mod OneReading
 pub mod Ends
 pub mod Written
+pub mod ReadBack
