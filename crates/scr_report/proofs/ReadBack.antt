@@ -118,9 +118,10 @@ pub follow-on : (names : List (List ℕ)) (last : ℕ) (verdicts : List Given) �
 follow-on names last [] plain grow named fit = tt
 follow-on names last (x ∷ verdicts) plain grow named fit =
     let Named : Given → Type 0 = λ given. given.verdict.0 < length names in
-    let Fits : Given → Type 0 = λ given. given.number < 2 ^ 32 in
-    (record { above = grow.0; fits = All-head Fits x verdicts fit; named = first-of_name names x.verdict.0 plain (All-head Named x verdicts named) },
-    follow-on names x.number verdicts plain grow.1 (All-tail Named x verdicts named) (All-tail Fits x verdicts fit))
+    let Fits : Given → Type 0 = λ given. given.number < 2 ^ 32 in (
+      record { above = grow.0; fits = All-head Fits x verdicts fit; named = first-of_name names x.verdict.0 plain (All-head Named x verdicts named) },
+      follow-on names x.number verdicts plain grow.1 (All-tail Named x verdicts named) (All-tail Fits x verdicts fit),
+    )
 
 -- growing numbers: at a place, and one more
 pub Grow-at : (last : ℕ) (xs : List Given) (i : ℕ) (d : Given) → i < length xs → Grow last xs → last_number last (take i xs) < (get_or xs i d).number

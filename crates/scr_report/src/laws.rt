@@ -98,8 +98,7 @@ fn tell_bounds(frames: u32, delivered: u32, kept: u32, flows: u64, totals: &[u64
     ensures kept { kept < 2 ^ 32 }
     ensures flows { flows < 2 ^ 64 }
     ensures totals { All (λ total. total < 2 ^ 64) totals.now }
-{
-}
+{}
 
 fn tell_counts(cores: &[CoreCounts])
     ensures { All AreCounts cores.now }

@@ -42,11 +42,7 @@ pub fn read_report(alloc: Global, names: &Names, bytes: &[u8]) -> Result<Report,
 }
 
 // The verdict lines, as many as there are.
-fn read_verdicts(
-    alloc: Global,
-    names: &Names,
-    lines: &mut Lines,
-) -> Result<Vec<Given>, ReportError>
+fn read_verdicts(alloc: Global, names: &Names, lines: &mut Lines) -> Result<Vec<Given>, ReportError>
     ensures { MatchResult result (λ verdicts. ReadsVerdicts names.now lines.old lines.new verdicts.items)
         (λ error. error ≡ ReportError.OutOfMemory) }
 {
