@@ -1,9 +1,12 @@
 -- What a core knows of the packets by the frames that are delivered to it.
-use Rattle.std.specs.Prelude.{◌≡◌, ℕ, ◌≤◌, Bool, true, List, length, map, Option, Some, None, if◌then◌else◌}
+use Rattle.std.specs.Prelude.{◌≡◌, ℕ, ◌-◌, ◌≤◌, Bool, true, List, ◌++◌, length, map, replicate, Option, Some, None, if◌then◌else◌}
 use Rattle.std.specs.List.{range_with_len}
 use Rattle.scr_base.specs.declared.row.Row.{Row}
 use Rattle.scr_plan.specs.Plan.{Plan, delivers_to}
 use Rattle.scr_plan.specs.FinalEntry.{final_entry}
+use Rattle.scr_wire.specs.declared.message.Message.{Message}
+use Rattle.scr_wire.specs.Spelling.{number_of}
+use Rattle.scr_wire.specs.Lane.{frame}
 use Rattle.scr_replica.specs.declared.entry.Entry.{Entry}
 use Rattle.scr_replica.specs.declared.entry.Entry.TheVariants.{Delivered, Carried, Lost}
 
@@ -32,3 +35,12 @@ pub record Knows (plan : Plan) (core n : ℕ) (known : List Entry) : Type 0 wher
   pub final : known ≡ entries_up_to plan core (length known)
   pub within : length known ≤ n
   pub own : (frame : ℕ) → frame ≤ n → delivers_to plan core frame ≡ true → frame ≤ length known
+
+-- the message is that of a frame of the plan that is delivered to this core
+pub record IsFrameTo (plan : Plan) (core : ℕ) (message : Message) : Type 0 where
+  pub is_frame : message ≡ frame plan (number_of message)
+  pub is_delivered : delivers_to plan core (number_of message) ≡ true
+
+-- what is known, where all unknown packets up to a number are lost
+abbrev pub with_lost : ℕ → List Entry → List Entry
+with_lost number known = known ++ replicate (number - length known) Lost

@@ -1,5 +1,10 @@
+ghost use Rattle.std.specs.Prelude.{◌≡◌, ◌-◌, ◌≤◌, ℕ, [], length, OnOk, IfOk};
+ghost use Rattle.scr_plan.specs.Plan.{Plan};
+ghost use Rattle.scr_wire.specs.Spelling.{number_of, rows_of};
+ghost use Rattle.scr_replica.specs.Entries.{Knows, IsFrameTo, with_lost};
+
 use crate::entry::Entry;
-use scr_base::{OutOfMemory, Row};
+use scr_base::OutOfMemory;
 use scr_wire::WireView;
 use std::alloc::Global;
 use std::marker::Model;
@@ -21,26 +26,35 @@ impl Model for Known {
 
 impl Known {
     /// Nothing yet, with room for so many packets.
-    pub(crate) fn new(alloc: Global, packets: usize) -> Result<Self, OutOfMemory> {
+    pub(crate) fn new(alloc: Global, packets: usize) -> Result<Self, OutOfMemory>
+        ensures { IfOk result (λ known. known ≡ []) }
+    {
         let entries = Vec::with_capacity(alloc, packets)?;
         Ok(Known { entries })
     }
 
     /// The entries, from packet 1 on.
-    pub(crate) fn entries(&self) -> &[Entry] {
+    pub(crate) fn entries(&self) -> &[Entry]
+        ensures { result.now ≡ self.now }
+    {
         &self.entries
     }
 
     /// All packets up to this number that aren't known are lost to the core.
-    pub(crate) fn lose(&mut self, number: u32) -> Result<(), OutOfMemory> {
-        for _ in self.entries.len()..number as usize {
+    pub(crate) fn lose(&mut self, number: u32) -> Result<(), OutOfMemory>
+        ensures { OnOk result (self.new ≡ with_lost number self.old) }
+    {
+        while self.entries.len() < number as usize {
             self.entries.push(Entry::Lost)?;
         }
         Ok(())
     }
 
     /// Takes the message of a frame: those of its rows that stand behind all that is known.
-    pub(crate) fn take_frame(&mut self, frame: &WireView) -> Result<(), OutOfMemory> {
+    pub(crate) fn take_frame(&mut self, frame: &WireView) -> Result<(), OutOfMemory>
+        requires { length (rows_of frame.now) ≤ number_of frame.now }
+        ensures { (plan : Plan) (core : ℕ) → IsFrameTo plan core frame.now → Knows plan core (number_of frame.now - 1) self.old → OnOk result (Knows plan core (number_of frame.now) self.new) }
+    {
         let count = frame.count();
         let before = frame.number() - u32::from(count);
         self.lose(before)?;
