@@ -1,3 +1,4 @@
 pub mod Lost
 pub mod Knowing
 pub mod Frames
+pub mod Passing
