@@ -2,3 +2,6 @@ pub mod Lost
 pub mod Knowing
 pub mod Frames
 pub mod Passing
+pub mod Packets
+pub mod Found
+pub mod Taking

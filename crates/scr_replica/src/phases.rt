@@ -12,11 +12,12 @@ use std::alloc::Global;
 fn results_of<P: Program>(
     alloc: Global,
     settings: &P::Settings,
+    plan: &RunPlan,
     cores: &[Known],
 ) -> Result<Vec<CoreResult>, OutOfMemory> {
     let mut results = Vec::new(alloc);
     for core in 0..cores.len() {
-        results.push(replay::<P>(alloc, settings, cores, core as u32)?)?;
+        results.push(replay::<P>(alloc, settings, plan, cores, core as u32)?)?;
     }
     Ok(results)
 }
@@ -28,6 +29,6 @@ pub fn run_phases<P: Program>(
     plan: &RunPlan,
 ) -> Result<Gathered, OutOfMemory> {
     let cores = filled(alloc, plan)?;
-    let results = results_of::<P>(alloc, settings, &cores)?;
+    let results = results_of::<P>(alloc, settings, plan, &cores)?;
     gather(alloc, plan.rows().len() as u32, &results)
 }
