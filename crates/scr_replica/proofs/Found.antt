@@ -5,7 +5,7 @@ use Rattle.std.specs.Option.{option_copied}
 use Rattle.std.specs.Borrow.{Bor}
 use Rattle.std.proofs.lemmas.Bool.{cases_lt}
 use Rattle.std.proofs.lemmas.List.{length-take-le, length-drop, get_or-take, get_or-drop, take_all}
-use Rattle.std.proofs.lemmas.List.FromFn.{get_or-map-range_with_len, length-map-range_with_len}
+use Rattle.std.proofs.lemmas.List.FromFn.{get_or-map-range_with_len}
 use Rattle.scr_base.specs.declared.row.Row.{Row}
 use Rattle.scr_plan.specs.Plan.{Plan, IsPlan, frame_count, delivers_to}
 use Rattle.scr_plan.specs.FinalEntry.{final_entry}
@@ -13,6 +13,7 @@ use Rattle.scr_replica.specs.declared.entry.Entry.{Entry}
 use Rattle.scr_replica.specs.declared.entry.Entry.TheVariants.{Lost}
 use Rattle.scr_replica.specs.Entries.{row_in, entry_of, entries_up_to, row_at, AllFinal}
 use Rattle.scr_replica.specs.OneCore.{kept_row}
+use Rattle.scr_replica.proofs.Knowing.{length-entries}
 use Rattle.scr_replica.proofs.Packets.{row_in-entry_with, known-kept, unknown-unkept}
 
 -- the cores from one on, and those before one
@@ -56,13 +57,9 @@ module _ (plan : Plan) (cores : List (List Entry)) (final : AllFinal plan cores)
 
   -- each core's list has the place
   pub long : (core : ℕ) → core < length cores → place < length (get_or cores core [])
-  unfolding entries_up_to
   long core below =
       let count = final.count in
-      omega (
-        arith, ap length (final.each core (omega arith)),
-        length-map-range_with_len (entry_of plan core) 1 (frame_count plan)
-      )
+      omega (arith, ap length (final.each core (omega arith)), length-entries plan core (frame_count plan))
 
   -- in two parts
   module _ (turn : ℕ) (few : turn ≤ length cores) where

@@ -1,8 +1,10 @@
 -- One packet more.
-use Rattle.std.proofs.Common.{◌≡◌, ℕ, suc, ◌+◌, ◌-◌, ◌<◌, ◌≤◌, Bool, true, false, cond, ◌&&◌, not, List, [], ◌∷◌, ◌++◌, Option, Some, None, option_to_list, arith, refl, sym, ap, ◌∙◌}
-use Rattle.std.specs.Prelude.{filter_map, is_some, count_by}
+use Rattle.std.proofs.Common.{◌≡◌, ℕ, suc, ◌+◌, ◌-◌, ◌<◌, ◌≤◌, Bool, true, false, cond, ◌&&◌, not, List, [], ◌∷◌, ◌++◌, Option, Some, None, length, get_or, option_to_list, arith, refl, sym, ap, ◌∙◌}
+use Rattle.std.specs.Prelude.{filter_map, is_some, count_by, IfSome, IsSome}
+use Rattle.std.specs.Borrow.{Bor}
 use Rattle.std.specs.List.{range_with_len, cons_option}
-use Rattle.std.specs.Option.{option_map}
+use Rattle.std.specs.Option.{option_map, option_copied}
+use Rattle.std.proofs.lemmas.List.{get_or_default}
 use Rattle.std.proofs.lemmas.List.Elements.{filter_map-append}
 use Rattle.std.proofs.lemmas.List.FromFn.{length-range_with_len}
 use Rattle.std.proofs.lemmas.List.Sums.{count_by-le-length}
@@ -13,6 +15,8 @@ use Rattle.scr_plan.specs.declared.given.Given.{Given}
 use Rattle.scr_plan.specs.Plan.{Plan, frame_count, row_of, delivers_to, carries_to, keeps}
 use Rattle.scr_plan.proofs.FromOne.{range-suc, count-suc}
 use Rattle.scr_plan.proofs.Packets.{kept-carried}
+use Rattle.scr_replica.specs.declared.entry.Entry.{Entry}
+use Rattle.scr_replica.specs.Entries.{AllFinal, entries_up_to}
 use Rattle.scr_replica.specs.OneCore.{kept_row, kept_rows, given_with, given_to, course_up_to}
 use Rattle.scr_replica.specs.Answers.{counts_up_to}
 use Rattle.scr_replica.proofs.Packets.{carried_own}
@@ -41,6 +45,32 @@ count-more test n p next =
 
 count_few : (test : ℕ → Bool) (n : ℕ) → count_by test (range_with_len 1 n) ≤ n
 count_few test n = omega (arith, count_by-le-length test (range_with_len 1 n), length-range_with_len 1 n)
+
+-- no packet
+pub kept_rows-zero : (plan : Plan) → kept_rows plan 0 ≡ []
+unfolding kept_rows
+kept_rows-zero plan = refl
+
+pub course-zero : (verdict_after : List Row → Row → Verdict) (plan : Plan) (core : ℕ) → course_up_to verdict_after plan core 0 ≡ []
+unfolding course_up_to
+course-zero verdict_after plan core = refl
+
+-- the core's own list
+pub own_entries : (plan : Plan) (cores : List (List Entry)) (core : ℕ) (items d : List Entry) → AllFinal plan cores → core < plan.cores
+    → items ≡ get_or cores core d → items ≡ entries_up_to plan core (frame_count plan)
+own_entries plan cores core items d final below is =
+    let count = final.count in
+    is ∙ get_or_default cores core d [] (omega arith) ∙ final.each core below
+
+-- a row that was found
+pub is_some-copied : (row : Option (Bor Row)) → is_some row ≡ is_some (option_copied row)
+is_some-copied None = refl
+is_some-copied (Some row) = refl
+
+pub some_kept : (o : Option Row) (row : Option (Bor Row)) (kept : Option Row) → IfSome o (λ r. kept ≡ Some r) → option_copied row ≡ kept → IsSome o
+    → is_some row ≡ true
+some_kept None row kept is found some = absurd cc
+some_kept (Some r) row kept is found some = is_some-copied row ∙ ap is_some found ∙ ap is_some is
 
 module _ (plan : Plan) (n p : ℕ) (next : n + 1 ≡ p) where
   pub kept_rows-more : kept_rows plan p ≡ kept_rows plan n ++ option_to_list (kept_row plan p)
