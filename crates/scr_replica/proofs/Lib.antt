@@ -5,3 +5,4 @@ pub mod Passing
 pub mod Packets
 pub mod Found
 pub mod Taking
+pub mod InOrder

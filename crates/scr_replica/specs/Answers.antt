@@ -28,6 +28,10 @@ counts_up_to plan core p = record {
   skipped = count_by (λ n. not (keeps plan n)) (range_with_len 1 p);
 }
 
+-- the verdicts of each core, in order
+abbrev pub courses : (List Row → Row → Verdict) → Plan → List (List Given)
+courses verdict_after plan = map (course verdict_after plan) (range_with_len 0 plan.cores)
+
 module _ (verdict_after : List Row → Row → Verdict) (count_after : List Row → ℕ) (plan : Plan) where
   -- what a core should answer: the one-core verdicts at its frames, its counts, and the one-core entries
   abbrev pub core_answer : (core : ℕ) → CoreAnswer
@@ -41,3 +45,11 @@ module _ (verdict_after : List Row → Row → Verdict) (count_after : List Row 
   -- what each core should answer, in order
   abbrev pub core_answers : List CoreAnswer
   core_answers = map core_answer (range_with_len 0 plan.cores)
+
+  -- what all of them should answer together
+  abbrev pub answer : Answer
+  answer = record {
+    verdicts = verdicts verdict_after plan;
+    cores = map (plan_counts plan) (range_with_len 0 plan.cores);
+    flows = entries count_after plan;
+  }
