@@ -5,6 +5,7 @@ mod entry;
 mod filling;
 mod gathered;
 mod known;
+mod laws;
 mod merging;
 mod phases;
 mod replay;
@@ -12,4 +13,5 @@ mod replay;
 mod tests;
 
 pub use gathered::{CoreResult, Gathered};
+pub use laws::one_core_of_all;
 pub use phases::run_phases;
