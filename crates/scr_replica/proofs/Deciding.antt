@@ -14,7 +14,7 @@ use Rattle.scr_wire.proofs.Decides.{decided-suc, decided-le}
 use Rattle.scr_replica.specs.declared.entry.Entry.{Entry}
 use Rattle.scr_replica.specs.Entries.{Knows, IsFrameTo, entries_up_to, with_lost}
 use Rattle.scr_replica.proofs.Lost.{length-with_lost}
-use Rattle.scr_replica.proofs.Knowing.{IsFinal, is_frame_to, Knows-beacon, Knows-end, length-entries}
+use Rattle.scr_replica.proofs.Knowing.{is_frame_to, Knows-beacon, Knows-end, length-entries}
 
 -- what messages decide, and more behind them
 decided_by_all-append : (history : ℕ) (xs ys : List Message)
@@ -72,9 +72,9 @@ module _ (plan : Plan) (core : ℕ) where
       let more = so_far-suc n in
       elim (cases_lt n f) as (λ _. f ≤ so_far (suc n)) [
         | inl late ↦ (
-          let here : suc n ≡ f = omega arith in
-          let own : cond (delivers_to plan core (suc n)) (suc n) 0 ≡ suc n = ap (λ (b : Bool). cond b (suc n) 0) (ap (delivers_to plan core) here ∙ holds) in
-          omega (arith, more, own))
+            let here : suc n ≡ f = omega arith in
+            let own : cond (delivers_to plan core (suc n)) (suc n) 0 ≡ suc n = ap (λ (b : Bool). cond b (suc n) 0) (ap (delivers_to plan core) here ∙ holds) in
+            omega (arith, more, own))
         | inr early ↦ (let before = so_far-own n f early holds in omega (arith, more, before))
       ]
 
@@ -139,18 +139,18 @@ module _ (plan : Plan) (core : ℕ) where
       elim (cases_lt m (length before)) as (λ _. IsPlace plan core m (get_or (lane plan core) m e)) [
         | inl early ↦ by_number n m e (omega arith) early
         | inr late ↦ (
-          let i : ℕ = m - length before in
-          let at : length before + i ≡ m = omega arith in
-          let len : length (lane_so_far plan core (suc n)) ≡ length before + length (added plan core (suc n)) =
-          ap length (lane_so_far-suc plan core n) ∙ length-append before (added plan core (suc n)) in
-          let within : i < length (added plan core (suc n)) = omega arith in
-          let front = lane_front plan core (suc n) to in
-          let parts : lane plan core ≡ before ++ (added plan core (suc n) ++ front.0) =
-          front.1 ∙ ap (λ (x : List Message). x ++ front.0) (lane_so_far-suc plan core n) ∙ append_assoc before (added plan core (suc n)) front.0 in
-          let there : get_or (lane plan core) m e ≡ get_or (added plan core (suc n)) i e =
-          ap (λ (k : ℕ). get_or (lane plan core) k e) (sym at) ∙ lane_at plan core n i e (omega arith) within in
-          subst (IsPlace plan core m) (sym there)
-          (at_added n m front.0 (has_beacon (suc n)) (delivers_to plan core (suc n)) refl parts i e within at))
+            let i : ℕ = m - length before in
+            let at : length before + i ≡ m = omega arith in
+            let len : length (lane_so_far plan core (suc n)) ≡ length before + length (added plan core (suc n)) =
+            ap length (lane_so_far-suc plan core n) ∙ length-append before (added plan core (suc n)) in
+            let within : i < length (added plan core (suc n)) = omega arith in
+            let front = lane_front plan core (suc n) to in
+            let parts : lane plan core ≡ before ++ (added plan core (suc n) ++ front.0) =
+            front.1 ∙ ap (λ (x : List Message). x ++ front.0) (lane_so_far-suc plan core n) ∙ append_assoc before (added plan core (suc n)) front.0 in
+            let there : get_or (lane plan core) m e ≡ get_or (added plan core (suc n)) i e =
+            ap (λ (k : ℕ). get_or (lane plan core) k e) (sym at) ∙ lane_at plan core n i e (omega arith) within in
+            subst (IsPlace plan core m) (sym there)
+            (at_added n m front.0 (has_beacon (suc n)) (delivers_to plan core (suc n)) refl parts i e within at))
       ]
 
   -- the place of each message of a lane
@@ -160,12 +160,12 @@ module _ (plan : Plan) (core : ℕ) where
       elim (cases_lt m (length all)) as (λ _. IsPlace plan core m (get_or (lane plan core) m e)) [
         | inl early ↦ by_number (frame_count plan) m e (omega arith) early
         | inr late ↦ (
-          let at : length all ≡ m = omega (arith, length-lane plan core) in
-          record {
-            number = frame_count plan;
-            stands = stands_front m (frame_count plan) (take_at all (End (frame_count plan) ∷ []) m at);
-            behind = inr (inr (ap (λ (k : ℕ). get_or (lane plan core) k e) (sym at) ∙ lane_at_end plan core e, refl));
-          })
+            let at : length all ≡ m = omega (arith, length-lane plan core) in
+            record {
+              number = frame_count plan;
+              stands = stands_front m (frame_count plan) (take_at all (End (frame_count plan) ∷ []) m at);
+              behind = inr (inr (ap (λ (k : ℕ). get_or (lane plan core) k e) (sym at) ∙ lane_at_end plan core e, refl));
+            })
       ]
 
 -- ---- what is known after the first m messages

@@ -14,4 +14,5 @@ mod tests;
 
 pub use gathered::{CoreResult, Gathered};
 pub use laws::one_core_of_all;
+pub use merging::gather;
 pub use phases::run_phases;
