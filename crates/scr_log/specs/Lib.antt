@@ -1,0 +1,6 @@
+pub mod Layout
+pub mod Entries
+pub mod Progress
+pub mod LogRule
+pub mod Steps
+pub mod Passes
