@@ -1,3 +1,4 @@
 pub mod Places
 pub mod OneLog
 pub mod Rules
+pub mod Loads

@@ -104,15 +104,14 @@ module _ (plan : Plan) (slots : ℕ) (words next : List ℕ) (progress after : �
     };
   }
 
--- a step of the pass at a seat, which keeps its core and its stock
+-- a step of the pass at a seat, which keeps its core
 module _ (plan : Plan) (slots : ℕ) (words : List ℕ) (views : List PassView) (rule : LogRule plan slots words views)
     (id : ℕ) (v : PassView) (there : get_elem? views id ≡ some v) (w : PassView) where
 
   pub record Goes (next : List ℕ) (after : ℕ → Progress) : Type 0 where
     pub same_core : w.core ≡ v.core
-    pub same_stock : w.stock ≡ v.stock
     pub same_length : length next ≡ length words
-    pub same_claim : slice_index next (claim_place plan.cores slots) ≡ slice_index words (claim_place plan.cores slots)
+    pub stocks : slice_index next (claim_place plan.cores slots) + total_stock (set views id w) ≤ 2 ^ 32
     pub later : Later plan slots words next rule.progress after
     pub others :
         (core : ℕ) → core < plan.cores → v.core ≢ Some core
@@ -149,9 +148,7 @@ module _ (plan : Plan) (slots : ℕ) (words : List ℕ) (views : List PassView) 
     owner = rule.owner;
     some_slots = rule.some_slots;
     all_words = step.same_length ∙ rule.all_words;
-    stocks =
-        let same = step.same_claim in let total = total-kept views id v w there step.same_stock in let was = rule.stocks in
-        omega arith;
+    stocks = step.stocks;
     nobodys = λ core below nobody.
         let before = nobodys_before core step.same_core nobody in
         let same = step.others core below (not_own core before) in
