@@ -2,3 +2,4 @@ pub mod Places
 pub mod OneLog
 pub mod Rules
 pub mod Loads
+pub mod Stores
