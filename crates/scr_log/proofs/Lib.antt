@@ -3,3 +3,4 @@ pub mod OneLog
 pub mod Rules
 pub mod Loads
 pub mod Stores
+pub mod Draws

@@ -39,9 +39,6 @@ module _ (plan : Plan) (slots : ℕ) (words : List ℕ) (views : List PassView) 
   its : IsCorePass plan slots words rule.progress rule.owner id v core
   its = pass.core core mine
 
-  next : List ℕ
-  next = slice_set words (place slots core offset) n
-
   in_words : place slots core offset < claim_place plan.cores slots
   in_words = at.place-below plan.cores slots core offset its.below within
 
@@ -78,9 +75,6 @@ module _ (plan : Plan) (slots : ℕ) (words : List ℕ) (views : List PassView) 
         (room : (j : ℕ) → j < plan.cores → j ≢ core → published ≤ slice_index v.noted j + slots)
         (room_to_write : (j : ℕ) → j < plan.cores → j ≢ core → 0 < stored → published + 1 ≤ slice_index v.noted j + slots)
         (not_found : v.found ≡ None) where
-
-      after : ℕ → Progress
-      after = updated rule.progress core after_progress
 
       own_before : rule.progress core ≡ progress_of v
       own_before = its.own
