@@ -3,4 +3,5 @@ pub mod Entries
 pub mod Progress
 pub mod LogRule
 pub mod Steps
+pub mod Seats
 pub mod Passes

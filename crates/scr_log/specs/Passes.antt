@@ -1,9 +1,11 @@
 -- What contracts see of the logs and of a pass, and what the log rule sees of a pass between two calls.
-use Rattle.std.specs.Prelude.{◌≡◌, ◌≢◌, ℕ, ◌+◌, ◌^◌, ◌<◌, ◌≤◌, List, [], Option, Some, None, length, slice_index}
+use Rattle.std.specs.Prelude.{◌≡◌, ◌≢◌, ℕ, ◌+◌, ◌-◌, ◌^◌, ◌<◌, ◌≤◌, List, [], ◌∷◌, ◌++◌, Option, Some, None, length, replicate, slice_index, slice_set, max}
 use Rattle.atomic_table.specs.Seated.{TableId}
-use Rattle.scr_plan.specs.Plan.{Plan}
+use Rattle.scr_plan.specs.Plan.{Plan, IsPlan, frame_count}
 use Rattle.scr_log.specs.declared.view.PassView.{PassView}
 use Rattle.scr_log.specs.declared.view.Noted.{Noted}
+use Rattle.scr_log.specs.declared.view.Noted.TheVariants.{Tag, Finished, Halt, Drawn}
+use Rattle.scr_log.specs.Layout.{word_count}
 
 -- the logs: their plan, the slots of each core, and which table they are, with the count of its words
 pub record LogsOf : Type 0 where
@@ -11,20 +13,24 @@ pub record LogsOf : Type 0 where
   pub slots : ℕ
   pub table : TableId
 
--- a pass that has no core
+-- what is true of all logs
+pub record IsLogs (logs : LogsOf) : Type 0 where
+  pub plan : IsPlan logs.plan
+  pub some_slots : 1 ≤ logs.slots
+  pub few_slots : logs.slots ≤ 4096
+  pub words : logs.table.words ≡ word_count logs.plan.cores logs.slots
+
+-- a pass that has no core: how many draws it may make or hand on, what it has looked at, and how many times it has set the
+-- halt word
 pub record Free : Type 0 where
-  pub plan : Plan
-  pub slots : ℕ
-  pub table : TableId
+  pub logs : LogsOf
   pub stock : ℕ
   pub looks : List Noted
   pub halts : ℕ
 
--- the pass of a core. `noted` has the greatest finished number of each core that it has loaded
+-- the pass of a core. `noted` has, of each core, the greatest finished number that the pass has loaded
 pub record OfCore : Type 0 where
-  pub plan : Plan
-  pub slots : ℕ
-  pub table : TableId
+  pub logs : LogsOf
   pub core : ℕ
   pub published : ℕ
   pub finished : ℕ
@@ -32,17 +38,55 @@ pub record OfCore : Type 0 where
   pub looks : List Noted
   pub halts : ℕ
 
--- a pass is one of these logs
-abbrev pub IsFreeOf : LogsOf → Free → Type 0
-IsFreeOf logs pass = pass.table ≡ logs.table
+-- how many draws there are in all
+abbrev pub all_draws : ℕ
+all_draws = 2 ^ 32
 
-abbrev pub IsOf : LogsOf → OfCore → Type 0
-IsOf logs pass = pass.table ≡ logs.table
+-- the pass that new logs come with, and one that was split off
+abbrev pub first_pass : LogsOf → Free
+first_pass logs = record { logs = logs; stock = all_draws; looks = []; halts = 0 }
 
--- by what a pass has noted, each other core has finished so much that the slot of packet p may be used again
+abbrev pub split_off : LogsOf → Free
+split_off logs = record { logs = logs; stock = 1; looks = []; halts = 0 }
+
+-- a free pass after it has drawn a number: the pass of that core, or a pass that came too late
+abbrev pub claimed : Free → ℕ → OfCore
+claimed pass core = record {
+  logs = pass.logs;
+  core = core;
+  published = 0;
+  finished = 0;
+  noted = replicate pass.logs.plan.cores 0;
+  looks = pass.looks;
+  halts = pass.halts;
+}
+
+abbrev pub came_late : Free → ℕ → Free
+came_late pass number = record pass { stock = pass.stock - 1; looks = pass.looks ++ Drawn number ∷ [] }
+
+-- the pass of a core with a look more
+abbrev pub looked : OfCore → Noted → OfCore
+looked pass look = record pass { looks = pass.looks ++ look ∷ [] }
+
+-- p is the number of a packet of the plan
+pub record IsNumber (logs : LogsOf) (p : ℕ) : Type 0 where
+  pub from : 1 ≤ p
+  pub to : p ≤ frame_count logs.plan
+
+-- the pass may publish p: it has published and finished all before p, and nothing else
+pub record IsNext (pass : OfCore) (p : ℕ) : Type 0 where
+  pub published : p ≡ pass.published + 1
+  pub finished : p ≡ pass.finished + 1
+
+-- p is the packet at hand: the pass has published it, and finished all before it
+pub record IsCurrent (pass : OfCore) (p : ℕ) : Type 0 where
+  pub published : p ≡ pass.published
+  pub finished : p ≡ pass.finished + 1
+
+-- by what the pass has noted, each other core has finished so much that the slot of p may be used again
 abbrev pub IsFreeFor : OfCore → ℕ → Type 0
 IsFreeFor pass p =
-    (j : ℕ) → j < pass.plan.cores → j ≢ pass.core → p ≤ slice_index pass.noted j + pass.slots
+    (j : ℕ) → j < pass.logs.plan.cores → j ≢ pass.core → p ≤ slice_index pass.noted j + pass.logs.slots
 
 -- what the rule sees of a pass between two calls
 abbrev pub free_view : Plan → (slots stock : ℕ) → List Noted → ℕ → PassView
@@ -60,21 +104,3 @@ free_view plan slots stock looks halts = record {
   halts = halts;
 }
 
-abbrev pub core_view : Plan → (slots stock core published finished : ℕ) → List ℕ → List Noted → ℕ → PassView
-core_view plan slots stock core published finished noted looks halts = record {
-  plan = plan;
-  slots = slots;
-  stock = stock;
-  core = Some core;
-  published = published;
-  finished = finished;
-  stored = 0;
-  noted = noted;
-  found = None;
-  looks = looks;
-  halts = halts;
-}
-
--- how many draws there are in all
-abbrev pub all_draws : ℕ
-all_draws = 2 ^ 32

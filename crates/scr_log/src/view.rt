@@ -4,6 +4,7 @@ use std::collections::LinkedList;
 use std::snapshot::Snapshot;
 
 /// What the logs are about: the plan of the run, and how many slots the log of a core has.
+#[derive(Drop)]
 pub struct About {
     pub plan: Snapshot<RunPlan>,
     pub slots: u32,
