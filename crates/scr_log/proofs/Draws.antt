@@ -22,7 +22,7 @@ use Rattle.scr_log.specs.Steps.{Mine, Draws, with_core, too_late, handed, new_pa
 use Rattle.scr_log.proofs.OneLog.{same_log, fresh_log}
 use Rattle.scr_log.proofs.Rules.{Later, Goes, goes, total-set, total-kept, halt_kept, pass_stays, looks_stay, there-below}
 use Rattle.scr_log.proofs.Loads.{core_pass_with, pass_with}
-use Rattle.scr_log.proofs.Places as at
+use Rattle.scr_log.proofs.Apart as at
 
 -- a free pass that has seen nothing
 free_pass : (plan : Plan) (slots : ℕ) (words : List ℕ) (progress : ℕ → Progress) (owner : ℕ → ℕ) (id stock halts : ℕ)

@@ -1,4 +1,4 @@
-pub mod Places
+pub mod Apart
 pub mod OneLog
 pub mod Rules
 pub mod Loads

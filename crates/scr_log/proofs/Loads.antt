@@ -20,7 +20,7 @@ use Rattle.scr_log.specs.Progress.{Progress, progress_of, IsCleared}
 use Rattle.scr_log.specs.LogRule.{IsLog, IsFound, IsCorePass, WasThere, IsPass, total_stock, HaltIs, LogRule, Keeps, core_words, HasRow}
 use Rattle.scr_log.specs.Steps.{Mine, LoadsTag, LoadsTagOf, TellsTag, tag_seen, row_found, LoadsWord, LoadsLastWord, IsWordFound, LoadsFinished, finished_seen, LoadsHalt}
 use Rattle.scr_log.proofs.Rules.{Later, Goes, goes, total-kept, halt_kept}
-use Rattle.scr_log.proofs.Places as at
+use Rattle.scr_log.proofs.Apart as at
 
 module _ (plan : Plan) (slots : ℕ) (words : List ℕ) (progress : ℕ → Progress) (owner : ℕ → ℕ) (id : ℕ) (v : PassView) where
   -- the pass of a core with other looks, another count of halts and another row that was found

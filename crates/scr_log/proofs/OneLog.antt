@@ -9,7 +9,7 @@ use Rattle.scr_log.specs.Layout.{core_size, tag_offset, data_offset, finished_of
 use Rattle.scr_log.specs.Entries.{entry, tag, row_word}
 use Rattle.scr_log.specs.Progress.{Progress, fresh}
 use Rattle.scr_log.specs.LogRule.{IsLog, MayWrite, HasRow}
-use Rattle.scr_log.proofs.Places as at
+use Rattle.scr_log.proofs.Apart as at
 
 -- one word of a core was changed
 pub record IsChangedAt (slots : ℕ) (changed value : ℕ) (word next : ℕ → ℕ) : Type 0 where

@@ -15,7 +15,7 @@ use Rattle.scr_log.specs.Layout.{core_size, word_count, place, claim_place, halt
 use Rattle.scr_log.specs.Progress.{Progress, fresh, progress_of, updated, IsCleared}
 use Rattle.scr_log.specs.LogRule.{IsLog, IsFound, IsCorePass, WasThere, IsPass, IsNobodys, IsUntouched, total_stock, HaltIs, LogRule, core_words}
 use Rattle.scr_log.proofs.OneLog.{same_log}
-use Rattle.scr_log.proofs.Places as at
+use Rattle.scr_log.proofs.Apart as at
 
 -- whether a pass has this core
 pub core_is : (o : Option ℕ) (core : ℕ) → Dec (o ≡ Some core)

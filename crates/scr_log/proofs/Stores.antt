@@ -17,7 +17,7 @@ use Rattle.scr_log.specs.LogRule.{IsLog, MayWrite, IsFound, IsCorePass, WasThere
 use Rattle.scr_log.specs.Steps.{Mine, StoresWord, StoresTag, StoresFinished}
 use Rattle.scr_log.proofs.OneLog.{IsChangedAt, data_stored, tag_stored, finished_stored}
 use Rattle.scr_log.proofs.Rules.{Later, Goes, goes, total-kept, halt_kept, looks_stay}
-use Rattle.scr_log.proofs.Places as at
+use Rattle.scr_log.proofs.Apart as at
 
 -- the progress of all cores after that of one has changed
 pub updated-same : (progress : ℕ → Progress) (core : ℕ) (next : Progress) → updated progress core next core ≡ next

@@ -15,10 +15,10 @@ use std::snapshot::Snapshot;
 /// The logs of all cores of a run. Threads share them, and each core writes its own log alone, by its pass.
 #[derive(Drop)]
 pub struct Logs {
-    table: Table<(), PassView, About, LogRules, Global>,
-    cores: u32,
+    pub(crate) table: Table<(), PassView, About, LogRules, Global>,
+    pub(crate) cores: u32,
     history: u32,
-    slots: u32,
+    pub(crate) slots: u32,
 }
 
 impl Model for Logs {
@@ -29,7 +29,7 @@ impl Model for Logs {
 
     ghost view = { λ logs. record {
       plan = logs.table.shared.key.plan.value;
-      slots = logs.slots;
+      slots = logs.table.shared.key.slots;
       table = logs.table.shared.table_id;
     } };
 
@@ -38,7 +38,7 @@ impl Model for Logs {
         × (logs.slots ≡ logs.table.shared.key.slots)
         × IsLogs (record {
           plan = logs.table.shared.key.plan.value;
-          slots = logs.slots;
+          slots = logs.table.shared.key.slots;
           table = logs.table.shared.table_id;
         }) };
 }
