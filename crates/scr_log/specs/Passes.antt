@@ -68,10 +68,12 @@ came_late pass number = record pass { stock = pass.stock - 1; looks = pass.looks
 abbrev pub looked : OfCore → Noted → OfCore
 looked pass look = record pass { looks = pass.looks ++ look ∷ [] }
 
--- p is the number of a packet of the plan
-pub record IsNumber (logs : LogsOf) (p : ℕ) : Type 0 where
-  pub from : 1 ≤ p
-  pub to : p ≤ frame_count logs.plan
+-- the pass of a core after it has loaded the finished word of a core
+abbrev pub noted_finished : OfCore → (core done : ℕ) → OfCore
+noted_finished pass core done = record pass {
+  looks = pass.looks ++ Finished core done ∷ [];
+  noted = slice_set pass.noted core (max (slice_index pass.noted core) done);
+}
 
 -- the pass may publish p: it has published and finished all before p, and nothing else
 pub record IsNext (pass : OfCore) (p : ℕ) : Type 0 where
@@ -103,4 +105,3 @@ free_view plan slots stock looks halts = record {
   looks = looks;
   halts = halts;
 }
-

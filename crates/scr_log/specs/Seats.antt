@@ -1,6 +1,9 @@
 -- What contracts see of a seat at the table, and what is true of it between two calls.
-use Rattle.std.specs.Prelude.{◌≡◌, ◌≢◌, ℕ, ◌<◌, ◌≤◌, List, [], Option, Some, None, length, slice_index}
+use Rattle.std.specs.Prelude.{◌≡◌, ◌≢◌, ℕ, ◌+◌, ◌<◌, ◌≤◌, List, [], Option, Some, None, length, slice_index}
 use Rattle.atomic_table.specs.Seated.{TableId}
+use Rattle.scr_base.specs.declared.row.Row.{Row}
+use Rattle.scr_plan.specs.Plan.{frame_count}
+use Rattle.scr_plan.specs.FinalEntry.{final_entry}
 use Rattle.scr_log.specs.declared.view.PassView.{PassView}
 use Rattle.scr_log.specs.Passes.{LogsOf, Free, OfCore, free_view}
 use Rattle.scr_log.specs.Steps.{Mine}
@@ -36,3 +39,25 @@ pub record IsCoreSeat (me : Mine) (core published known : ℕ) : Type 0 where
   pub below : core < me.0.plan.cores
   pub each_core : length me.0.noted ≡ me.0.plan.cores
   pub known_of_all : (j : ℕ) → j < me.0.plan.cores → j ≢ core → known ≤ slice_index me.0.noted j
+
+-- between the calls on the table: the seat of a core that is about to publish p
+pub record MayPublish (logs : LogsOf) (table : TableId) (me : Mine) (core p : ℕ) : Type 0 where
+  pub of_these : table ≡ logs.table
+  pub its_core : me.0.core ≡ Some core
+  pub nothing_found : me.0.found ≡ None
+  pub idle : me.0.finished ≡ me.0.published
+  pub next : p ≡ me.0.published + 1
+  pub left : p ≤ frame_count logs.plan
+  pub room : (j : ℕ) → j < logs.plan.cores → j ≢ core → p ≤ slice_index me.0.noted j + logs.slots
+
+-- the seat of a core that has found the row of p in the log of another core
+pub record IsReading (logs : LogsOf) (table : TableId) (me : Mine) (core p : ℕ) : Type 0 where
+  pub of_these : table ≡ logs.table
+  pub same_plan : me.0.plan ≡ logs.plan
+  pub same_slots : me.0.slots ≡ logs.slots
+  pub own : ℕ
+  pub its_core : me.0.core ≡ Some own
+  pub found : me.0.found ≡ Some (record { core = core; number = p })
+  pub current : p ≡ me.0.finished + 1
+  pub row : Row
+  pub is_row : final_entry logs.plan core p ≡ Some row

@@ -4,13 +4,18 @@
 mod claiming;
 mod halting;
 mod logs;
+mod look;
 mod pass;
 mod places;
+mod publishing;
+mod room;
 mod rule;
 mod view;
 
 pub use claiming::Late;
 pub use logs::Logs;
+pub use look::Look;
 pub use pass::{CorePass, FreePass};
+pub use room::Room;
 pub use rule::LogRules;
 pub use view::{About, Found, Noted, PassView};

@@ -38,7 +38,7 @@ pub struct CorePass {
     pub(crate) core: u32,
     pub(crate) published: u32,
     // each other core has finished this number, as far as the pass has noted
-    pub(crate) known: u32,
+    pub(crate) known: u64,
     pub(crate) seat: Place,
 }
 
