@@ -4,3 +4,4 @@ pub mod Rules
 pub mod Loads
 pub mod Stores
 pub mod Draws
+pub mod Calls

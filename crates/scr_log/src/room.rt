@@ -1,4 +1,4 @@
-ghost use Rattle.std.specs.Prelude.{◌≡◌, ◌≤◌, ◌<◌, ◌+◌, ℕ};
+ghost use Rattle.std.specs.Prelude.{◌≡◌, ◌<◌, ◌+◌, length};
 ghost use Rattle.scr_log.specs.Passes.{noted_finished};
 ghost use Rattle.scr_log.specs.Answers.{HasLoaded, RoomTells};
 
@@ -19,7 +19,8 @@ impl Logs {
     fn load_finished(&self, pass: &mut CorePass, core: u32) -> u64
         requires of_these { pass.old.logs ≡ self.now }
         requires core { core < self.now.plan.cores }
-        ensures { pass.new ≡ noted_finished pass.old core result }
+        ensures noted { pass.new ≡ noted_finished pass.old core result }
+        ensures each_core { length pass.old.noted ≡ self.now.plan.cores }
     {
         let at = self.finished_place(core);
         self.table
