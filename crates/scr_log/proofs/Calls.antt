@@ -1,5 +1,5 @@
 -- The kinds of step as the calls make them: numbers of packets are counted from 1, and places are those of a call.
-use Rattle.std.proofs.Common.{◌≡◌, ◌≢◌, ℕ, ◌+◌, ◌-◌, ◌*◌, ◌%◌, ◌<◌, ◌≤◌, List, [], ◌∷◌, ◌++◌, length, get_or, set, sym, refl, ap, ◌∙◌, arith, subst, max, length-set, get_or-set_same, get_or-set_other, append_assoc, append-nil}
+use Rattle.std.proofs.Common.{◌≡◌, ◌≢◌, ℕ, ◌+◌, ◌-◌, ◌*◌, ◌%◌, ◌<◌, ◌≤◌, List, [], ◌∷◌, ◌++◌, length, get_or, set, sym, refl, ap, ◌∙◌, arith, subst, max, min, length-set, get_or-set_same, get_or-set_other, append_assoc, append-nil}
 use Rattle.std.specs.Prelude.{Option, Some, None, slice_index, slice_set}
 use mathlib.Core.Option.{none}
 use mathlib.Core.Logic.{dite}
@@ -17,7 +17,8 @@ use Rattle.scr_log.specs.LogRule.{Keeps}
 use Rattle.scr_log.specs.Passes.{LogsOf, OfCore, noted_finished, IsFreeFor}
 use Rattle.scr_log.specs.Seats.{MayPublish}
 use Rattle.scr_log.specs.Steps.{Mine, StoresWord, StoresTag}
-use Rattle.scr_log.specs.Answers.{HasLoaded}
+use Rattle.scr_log.specs.declared.room.Room.TheVariants.{NoRoom}
+use Rattle.scr_log.specs.Answers.{HasLoaded, RoomTells}
 use Rattle.scr_log.proofs.Stores.{stores_word, stores_tag}
 
 -- the final entry of packet p, counted from 0
@@ -110,3 +111,38 @@ loaded_more old new core done loaded in_list = record {
   looks = ap (λ (looks : List Noted). looks ++ Finished core done ∷ []) loaded.looks ∙ append_assoc old.looks loaded.more (Finished core done ∷ []);
   noted = λ j. let was = loaded.noted j in let more = noted-more new.noted core done j in_list in omega arith;
 }
+
+pub searched_own : (old new : OfCore) (needed known core : ℕ) → core ≡ old.core → HasSearched old new needed known core
+    → HasSearched old new needed known (core + 1)
+searched_own old new needed known core own searched = record {
+  loaded = searched.loaded;
+  known_of_all = λ j less differ. let not_own : j ≢ core = λ same. differ (same ∙ own) in searched.known_of_all j (omega arith) differ;
+  enough = searched.enough;
+}
+
+pub searched_more : (old new : OfCore) (needed known core done : ℕ) → length new.noted ≡ old.logs.plan.cores → core < old.logs.plan.cores
+    → needed ≤ done → HasSearched old new needed known core
+    → HasSearched old (noted_finished new core done) needed (min known done) (core + 1)
+searched_more old new needed known core done each below enough searched =
+    let in_list : core < length new.noted = omega arith in
+    let loaded = loaded_more old new core done searched.loaded in_list in
+    let was = searched.enough in
+    record {
+      loaded = loaded;
+      known_of_all = λ j less differ.
+          dite (ℕ_discrete j core)
+          (λ (same : j ≡ core).
+              let it = get_or-set_same new.noted core (max (slice_index new.noted core) done) 0 in_list in
+              subst (λ (k : ℕ). min known done ≤ slice_index (slice_set new.noted core (max (slice_index new.noted core) done)) k) (sym same) (omega arith))
+          (λ apart.
+              let it = get_or-set_other new.noted core j (max (slice_index new.noted core) done) 0 apart in
+              let known_j = searched.known_of_all j (omega arith) differ in
+              omega arith);
+      enough = omega arith;
+    }
+
+-- a core that has finished too little was met
+pub met_behind : (old new : OfCore) (core done p needed : ℕ) → HasLoaded old new → core < old.logs.plan.cores → core ≢ old.core
+    → done < needed → needed ≡ p - old.logs.slots → RoomTells old (noted_finished new core done) p (NoRoom core done)
+met_behind old new core done p needed loaded below other less is =
+    (below, other, omega arith, (loaded.more, ap (λ (looks : List Noted). looks ++ Finished core done ∷ []) loaded.looks))
