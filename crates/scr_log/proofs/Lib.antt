@@ -5,3 +5,5 @@ pub mod Loads
 pub mod Stores
 pub mod Draws
 pub mod Calls
+pub mod LostToAll
+pub mod Looking
