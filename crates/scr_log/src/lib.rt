@@ -10,6 +10,8 @@ mod places;
 mod publishing;
 mod room;
 mod rule;
+#[cfg(test)]
+mod tests;
 mod view;
 
 pub use claiming::Late;
