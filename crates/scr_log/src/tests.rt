@@ -98,3 +98,131 @@ fn two_cores_by_one_thread(rt: HostRuntime) -> Result<(), Fail> {
     assert!(rt; logs.halted(&mut one));
     Ok(())
 }
+
+// Publishes the final entry for packet p, when the slot is free.
+fn publish_when_free<R: Wait>(rt: &R, logs: &Logs, plan: &RunPlan, pass: &mut CorePass, p: u32)
+    requires of_these { pass.old.logs ≡ logs.now }
+    requires plan { logs.now.plan ≡ plan.now }
+    requires next { p ≡ pass.old.published + 1 }
+    requires idle { pass.old.published ≡ pass.old.finished }
+    requires within { p ≤ length plan.now.rows }
+    ensures published { pass.new.published ≡ p }
+    ensures finished { pass.new.finished ≡ pass.old.finished }
+    ensures same { pass.new.logs ≡ pass.old.logs }
+    ensures core { pass.new.core ≡ pass.old.core }
+{
+    for _ in rt.forever() {
+        if publish(logs, plan, pass, p) {
+            return;
+        }
+        thread::yield_now();
+    }
+    unreachable!()
+}
+
+// The row of packet p in the log of another core, or none where it is lost there.
+fn entry_of<R: Wait>(rt: &R, logs: &Logs, pass: &mut CorePass, core: u32, p: u32) -> Option<Row>
+    requires of_these { pass.old.logs ≡ logs.now }
+    requires core { core < logs.now.plan.cores }
+    requires other { core ≢ pass.old.core }
+    requires published { p ≡ pass.old.published }
+    requires finished { p ≡ pass.old.finished + 1 }
+    ensures published { pass.new.published ≡ pass.old.published }
+    ensures finished { pass.new.finished ≡ pass.old.finished }
+    ensures same { pass.new.logs ≡ pass.old.logs }
+    ensures core { pass.new.core ≡ pass.old.core }
+{
+    for _ in rt.forever() {
+        match logs.look(pass, core, p) {
+            Look::Row(row) => return Some(row),
+            Look::Lost => return None,
+            Look::NotYet { .. } => thread::yield_now(),
+        }
+    }
+    unreachable!()
+}
+
+// A core of two publishes all packets, and notes what the other core has for each.
+fn go_through<R: Wait>(
+    rt: &R,
+    logs: &Logs,
+    plan: &RunPlan,
+    mut pass: CorePass,
+    entries: &mut [Option<Row>],
+)
+    requires of_these { pass.logs ≡ logs.now }
+    requires plan { logs.now.plan ≡ plan.now }
+    requires cores { plan.now.cores ≡ 2 }
+    requires fresh { pass.published ≡ 0 }
+    requires idle { pass.finished ≡ 0 }
+    requires all { length entries.old ≡ length plan.now.rows }
+    requires few { length plan.now.rows ≤ 1000000 }
+{
+    let other = 1 - pass.core();
+    let mut p = 0;
+    for entry in entries.iter_mut() {
+        p += 1;
+        publish_when_free(rt, logs, plan, &mut pass, p);
+        *entry = entry_of(rt, logs, &mut pass, other, p);
+        logs.finish(&mut pass, p);
+    }
+}
+
+// Two cores in threads go through all packets of a plan. Each notes what the other has.
+fn by_two_threads<R: Threads + Wait + Sync>(
+    rt: &R,
+    alloc: Global,
+    plan: &RunPlan,
+    slots: u32,
+    of_one: &mut [Option<Row>],
+    of_zero: &mut [Option<Row>],
+) -> Result<bool, OutOfMemory>
+    requires cores { plan.now.cores ≡ 2 }
+    requires some_slots { 1 ≤ slots }
+    requires few_slots { slots ≤ 4096 }
+    requires zero { length of_zero.old ≡ length plan.now.rows }
+    requires one { length of_one.old ≡ length plan.now.rows }
+    requires few { length plan.now.rows ≤ 1000000 }
+{
+    let (logs, mut main) = Logs::make(alloc, plan, slots)?;
+    let first = main.split(&logs);
+    let (Ok(zero), Ok(one)) = (logs.claim(first), logs.claim(main)) else {
+        return Ok(false);
+    };
+    thread::join(
+        rt,
+        || go_through(rt, &logs, plan, zero, of_one),
+        || go_through(rt, &logs, plan, one, of_zero),
+    );
+    Ok(true)
+}
+
+#[test]
+fn two_cores_have_their_final_entries(rt: HostRuntime) -> Result<(), Fail> {
+    let row = Some(ROW);
+    let cases: [(u32, [Option<Row>; 4], [Option<Row>; 4]); 2] = [
+        (0, [row, None, row, None], [None, None, None, row]),
+        (1, [row, row, row, None], [None, None, row, row]),
+    ];
+    for (history, zero, one) in cases {
+        let plan = two_cores(rt.alloc(), 4, history, b"2")?;
+        let (mut of_one, mut of_zero) = ([None; 4], [None; 4]);
+        assert!(rt; by_two_threads(&rt, rt.alloc(), &plan, 4, &mut of_one, &mut of_zero)?);
+        assert_eq!(rt; of_zero, zero, "core 0 at history {history}");
+        assert_eq!(rt; of_one, one, "core 1 at history {history}");
+    }
+    Ok(())
+}
+
+#[test]
+fn two_cores_use_one_slot_a_hundred_times(rt: HostRuntime) -> Result<(), Fail> {
+    let plan = two_cores(rt.alloc(), 100, 0, b"3-100/3")?;
+    let (mut of_one, mut of_zero) = ([None; 100], [None; 100]);
+    assert!(rt; by_two_threads(&rt, rt.alloc(), &plan, 1, &mut of_one, &mut of_zero)?);
+    for (i, (zero, one)) in of_zero.iter().zip(of_one.iter()).enumerate() {
+        let delivered = (i + 1) % 3 != 0;
+        assert_eq!(rt; zero.is_some(), delivered && i % 2 == 0, "core 0 at {i}");
+        assert_eq!(rt; one.is_some(), delivered && i % 2 == 1, "core 1 at {i}");
+    }
+    Ok(())
+}
