@@ -50,18 +50,18 @@ pub word_allowed : (logs : LogsOf) (table : TableId) (homes id : ℕ) (first me 
     → MayPublish logs table first core p → me ≡ (record first.0 { stored = i }, first.1) → i < 7
     → final_entry logs.plan core p ≡ Some row → at ≡ place logs.slots core (tag_offset logs.slots (p - 1))
     → Allows (Keeps logs.plan logs.slots) homes id me (at + 1 + i) (λ _. row_word row i)
-        (λ _. StoresWord (step homes (at + 1 + i) (row_word row i) 0 none) me (row_word row i))
+    (λ _. StoresWord (step homes (at + 1 + i) (row_word row i) 0 none) me (row_word row i))
 word_allowed logs table homes id first me core p at i row may now few is here =
     let q : ℕ = first.0.published in
     let next : p ≡ q + 1 = may.next in
     let left = may.left in
     subst
     (λ (m : Mine). Allows (Keeps logs.plan logs.slots) homes id m (at + 1 + i) (λ _. row_word row i)
-        (λ _. StoresWord (step homes (at + 1 + i) (row_word row i) 0 none) m (row_word row i)))
+    (λ _. StoresWord (step homes (at + 1 + i) (row_word row i) 0 none) m (row_word row i)))
     (sym now)
     (stores_word logs.plan logs.slots homes id (record first.0 { stored = i }, first.1) core (at + 1 + i) (row_word row i) row
-        may.its_core may.nothing_found may.idle (omega arith) (final_entry-from_zero logs.plan core p q next ∙ is) few
-        (λ j less else. let free = may.room j less else in omega arith) refl (data_place logs.slots core p q at i next here))
+    may.its_core may.nothing_found may.idle (omega arith) (final_entry-from_zero logs.plan core p q next ∙ is) few
+    (λ j less else. let free = may.room j less else in omega arith) refl (data_place logs.slots core p q at i next here))
 
 -- the tag of p is stored
 pub tag_allowed : (logs : LogsOf) (table : TableId) (homes id : ℕ) (me : Mine) (core p at n : ℕ)
@@ -97,8 +97,8 @@ noted-more : (noted : List ℕ) (core done j : ℕ) → core < length noted
 noted-more noted core done j in_list =
     dite (ℕ_discrete j core)
     (λ (same : j ≡ core).
-        let it = get_or-set_same noted core (max (slice_index noted core) done) 0 in_list in
-        subst (λ (k : ℕ). slice_index noted k ≤ slice_index (slice_set noted core (max (slice_index noted core) done)) k) (sym same) (omega arith))
+    let it = get_or-set_same noted core (max (slice_index noted core) done) 0 in_list in
+    subst (λ (k : ℕ). slice_index noted k ≤ slice_index (slice_set noted core (max (slice_index noted core) done)) k) (sym same) (omega arith))
     (λ else. let it = get_or-set_other noted core j (max (slice_index noted core) done) 0 else in omega arith)
 
 pub loaded_more : (old new : OfCore) (core done : ℕ) → HasLoaded old new → core < length new.noted
@@ -132,12 +132,12 @@ searched_more old new needed known core done each below enough searched =
       known_of_all = λ j less differ.
           dite (ℕ_discrete j core)
           (λ (same : j ≡ core).
-              let it = get_or-set_same new.noted core (max (slice_index new.noted core) done) 0 in_list in
-              subst (λ (k : ℕ). min known done ≤ slice_index (slice_set new.noted core (max (slice_index new.noted core) done)) k) (sym same) (omega arith))
+          let it = get_or-set_same new.noted core (max (slice_index new.noted core) done) 0 in_list in
+          subst (λ (k : ℕ). min known done ≤ slice_index (slice_set new.noted core (max (slice_index new.noted core) done)) k) (sym same) (omega arith))
           (λ apart.
-              let it = get_or-set_other new.noted core j (max (slice_index new.noted core) done) 0 apart in
-              let known_j = searched.known_of_all j (omega arith) differ in
-              omega arith);
+          let it = get_or-set_other new.noted core j (max (slice_index new.noted core) done) 0 apart in
+          let known_j = searched.known_of_all j (omega arith) differ in
+          omega arith);
       enough = omega arith;
     }
 

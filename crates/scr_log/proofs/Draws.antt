@@ -75,7 +75,6 @@ total-snoc (x ∷ xs) v = let more = total-snoc xs v in omega arith
 -- a split: the new pass has one of the stock
 module _ (plan : Plan) (slots : ℕ) (words : List ℕ) (views : List PassView) (rule : LogRule plan slots words views)
     (id : ℕ) (v : PassView) (there : get_elem? views id ≡ some v) (enough : 1 ≤ v.stock) where
-
   split_pass : IsPass plan slots words rule.progress rule.owner id v
   split_pass = rule.passes id v there
 
@@ -135,8 +134,11 @@ module _ (plan : Plan) (slots : ℕ) (words : List ℕ) (views : List PassView) 
   } where
     halt_after : HaltIs (set views id (handed v)) (slice_index words (halt_place plan.cores slots))
         → HaltIs (set views id (handed v) ++ new_pass v ∷ []) (slice_index words (halt_place plan.cores slots))
-    halt_after (inl unset) = inl (unset.0, λ j x at_j. ⊎_elim (λ old. unset.1 j x old)
-        (λ (same : new_pass v ≡ x). ap (λ (p : PassView). p.halts) (sym same)) (at_snoc (set views id (handed v)) (new_pass v) x j at_j))
+    halt_after (inl unset) = inl (
+      unset.0,
+      λ j x at_j. ⊎_elim (λ old. unset.1 j x old)
+          (λ (same : new_pass v ≡ x). ap (λ (p : PassView). p.halts) (sym same)) (at_snoc (set views id (handed v)) (new_pass v) x j at_j),
+    )
     halt_after (inr one) = let it = one.1 in inr (one.0, (it.0, it.1, at_longer (set views id (handed v)) (new_pass v ∷ []) it.0 it.1 it.2, it.3))
 
 pub splits : (plan : Plan) (slots id : ℕ) (v : PassView) → 1 ≤ v.stock → Splits (Keeps plan slots) id v (handed v) (new_pass v)
@@ -146,7 +148,6 @@ splits plan slots id v enough s rule there = splits_pass plan slots s.words s.vi
 module _ (plan : Plan) (slots : ℕ) (words : List ℕ) (views : List PassView) (rule : LogRule plan slots words views)
     (id : ℕ) (v : PassView) (there : get_elem? views id ≡ some v) (free : v.core ≡ None) (not_found : v.found ≡ None)
     (nothing : progress_of v ≡ fresh) (enough : 1 ≤ v.stock) (n : ℕ) (here : slice_index words (claim_place plan.cores slots) ≡ n) where
-
   abbrev pub next_words : List ℕ
   next_words = slice_set words (claim_place plan.cores slots) (n + 1)
 
@@ -267,9 +268,9 @@ module _ (plan : Plan) (slots : ℕ) (words : List ℕ) (views : List PassView) 
     nobodys_then core nobody j x at_j has =
         dite (ℕ_discrete j id)
         (λ (same : j ≡ id).
-            let both : some x ≡ some v = sym at_j ∙ (ap (λ (k : ℕ). get_elem? views k) same ∙ there) in
-            let is : x.core ≡ v.core = ap (λ (p : PassView). p.core) (some-injective x v both) in
-            let clash : None ≡ Some core = sym free ∙ (sym is ∙ has) in absurd (cc))
+        let both : some x ≡ some v = sym at_j ∙ (ap (λ (k : ℕ). get_elem? views k) same ∙ there) in
+        let is : x.core ≡ v.core = ap (λ (p : PassView). p.core) (some-injective x v both) in
+        let clash : None ≡ Some core = sym free ∙ (sym is ∙ has) in absurd (cc))
         (λ apart. nobody j x (set_else views id j (with_core v n) apart ∙ at_j) has)
 
     pub draws_core : LogRule plan slots next_words (set views id (with_core v n))
@@ -395,8 +396,8 @@ sets_halt plan slots homes id me i is s rule _ there _ =
     let v : PassView = me.0 in
     let n : ℕ = slice_index s.words i in
     let one : bit_or n 1 ≡ 1 =
-        subst (λ (place : ℕ). bit_or (slice_index s.words place) 1 ≡ 1) (sym is)
-            (halted_word s.views (slice_index s.words (halt_place plan.cores slots)) rule.halt) in (
+    subst (λ (place : ℕ). bit_or (slice_index s.words place) 1 ≡ 1) (sym is)
+    (halted_word s.views (slice_index s.words (halt_place plan.cores slots)) rule.halt) in (
       record v { halts = v.halts + 1 },
       keeps,
       tt,

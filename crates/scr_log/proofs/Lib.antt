@@ -7,3 +7,4 @@ pub mod Draws
 pub mod Calls
 pub mod LostToAll
 pub mod Looking
+pub mod RuleSays

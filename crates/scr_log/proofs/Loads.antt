@@ -84,7 +84,7 @@ loads_halt plan slots homes id me i is s rule _ there _ =
       tt,
       watches_word plan slots s.words s.views rule id v there w i refl refl refl
           (pass_with plan slots s.words rule.progress rule.owner id v (Halt n) v.halts
-              (λ one. ap (λ (place : ℕ). slice_index s.words place) (sym is) ∙ one) (rule.passes id v there)),
+          (λ one. ap (λ (place : ℕ). slice_index s.words place) (sym is) ∙ one) (rule.passes id v there)),
       refl,
     )
 
@@ -96,10 +96,10 @@ module _ (plan : Plan) (slots : ℕ) (words : List ℕ) (progress : ℕ → Prog
   noted_after core c i less =
       dite (ℕ_discrete i j)
       (λ (same : i ≡ j).
-          let in_list : j < length v.noted = let e = c.each_core in omega arith in
-          let it = get_or-set_same v.noted j (max (slice_index v.noted j) n) 0 in_list in
-          let was = c.noted j below in
-          subst (λ (k : ℕ). slice_index (slice_set v.noted j (max (slice_index v.noted j) n)) k ≤ (progress k).finished) (sym same) (omega arith))
+      let in_list : j < length v.noted = let e = c.each_core in omega arith in
+      let it = get_or-set_same v.noted j (max (slice_index v.noted j) n) 0 in_list in
+      let was = c.noted j below in
+      subst (λ (k : ℕ). slice_index (slice_set v.noted j (max (slice_index v.noted j) n)) k ≤ (progress k).finished) (sym same) (omega arith))
       (λ else. let it = get_or-set_other v.noted j i (max (slice_index v.noted j) n) 0 else in let was = c.noted i less in omega arith)
 
   noted_grows : (core : ℕ) → IsCorePass plan slots words progress owner id v core → (i : ℕ) → i < plan.cores
@@ -107,9 +107,9 @@ module _ (plan : Plan) (slots : ℕ) (words : List ℕ) (progress : ℕ → Prog
   noted_grows core c i less =
       dite (ℕ_discrete i j)
       (λ (same : i ≡ j).
-          let in_list : j < length v.noted = let e = c.each_core in omega arith in
-          let it = get_or-set_same v.noted j (max (slice_index v.noted j) n) 0 in_list in
-          subst (λ (k : ℕ). slice_index v.noted k ≤ slice_index (slice_set v.noted j (max (slice_index v.noted j) n)) k) (sym same) (omega arith))
+      let in_list : j < length v.noted = let e = c.each_core in omega arith in
+      let it = get_or-set_same v.noted j (max (slice_index v.noted j) n) 0 in_list in
+      subst (λ (k : ℕ). slice_index v.noted k ≤ slice_index (slice_set v.noted j (max (slice_index v.noted j) n)) k) (sym same) (omega arith))
       (λ else. let it = get_or-set_other v.noted j i (max (slice_index v.noted j) n) 0 else in omega arith)
 
   pub finished_pass : IsPass plan slots words progress owner id (finished_seen v j n)
@@ -146,7 +146,7 @@ loads_finished plan slots homes id me j i below is s rule _ there _ =
           (finished_pass plan slots s.words rule.progress rule.owner id v j n below pass (omega arith)),
       (λ core less its.
           let its' : i ≡ place slots core (finished_offset slots) =
-              subst (λ (k : ℕ). i ≡ place k core (finished_offset k)) pass.same_slots its in
+          subst (λ (k : ℕ). i ≡ place k core (finished_offset k)) pass.same_slots its in
           let one : j ≡ core = at.place-core slots j core (finished_offset slots) (finished_offset slots) within within (sym is ∙ its') in
           ap (λ (c : ℕ). (finished_seen v c n, me.1)) one),
     )
@@ -172,73 +172,76 @@ module _ (plan : Plan) (slots core : ℕ) (some : 0 < slots) (p : Progress) (wor
   pub tag_in_slot : (word (tag_offset slots q) ≡ 0) ⊎ IsOfSlot
   tag_in_slot = ⊎_elim
       (λ (below : p.published ≤ q % slots).
-          let slot : ℕ = q % slots in
-          let small : slot < slots = omega arith in
-          let one : slot % slots ≡ q % slots = at.slot-first slots some slot small in
-          inl (ap word (at.tag_offset-slot slots q slot (sym one)) ∙ log.unset slot below small))
+      let slot : ℕ = q % slots in
+      let small : slot < slots = omega arith in
+      let one : slot % slots ≡ q % slots = at.slot-first slots some slot small in
+      inl (ap word (at.tag_offset-slot slots q slot (sym one)) ∙ log.unset slot below small))
       (λ (last : (r : ℕ) × (r < p.published) × (p.published ≤ r + slots) × (r % slots ≡ q % slots)).
-          let r : ℕ = last.0 in
-          let below : r < p.published = last.1 in
-          inr (r, below,
-              dite (dec_lt q r)
-              (λ more. let less : r < q + slots = omega arith in absurd (at.slot-apart slots some q r more less (sym last.3)))
-              (λ less. omega arith),
-              last.3,
-              ap word (at.tag_offset-slot slots q r (sym last.3)) ∙ log.tags r below last.2))
+      let r : ℕ = last.0 in
+      let below : r < p.published = last.1 in
+      inr (
+        r,
+        below,
+        dite (dec_lt q r)
+            (λ more. let less : r < q + slots = omega arith in absurd (at.slot-apart slots some q r more less (sym last.3)))
+            (λ less. omega arith),
+        last.3,
+        ap word (at.tag_offset-slot slots q r (sym last.3)) ∙ log.tags r below last.2,
+      ))
       (at.last_in slots q p.published some)
 
   row_of_tag : (n : ℕ) → n ≡ row_tag (q + 1) → (word (tag_offset slots q) ≡ n) → HasRow plan core q × (q < p.published)
   row_of_tag n is here = ⊎_elim
       (λ (none : word (tag_offset slots q) ≡ 0). absurd (omega arith))
       (λ (of : IsOfSlot). ⊎_elim
-          (λ (has : (row : Row) × (entry plan core of.0 ≡ Some row) × (tag plan core of.0 ≡ row_tag (of.0 + 1))).
-              let r : ℕ = of.0 in
-              let below : r < p.published = of.1 in
-              let t : word (tag_offset slots q) ≡ tag plan core r = of.4 in
-              let u : tag plan core r ≡ 4 * (r + 1) + 1 = has.2 in
-              let one : r ≡ q = omega arith in
-              ((has.0, subst (λ (k : ℕ). entry plan core k ≡ Some has.0) one has.1), omega arith))
-          (λ (lost : (entry plan core of.0 ≡ None) × (tag plan core of.0 ≡ lost_tag (of.0 + 1))).
-              let r : ℕ = of.0 in
-              let t : word (tag_offset slots q) ≡ tag plan core r = of.4 in
-              let u : tag plan core r ≡ 4 * (r + 1) + 2 = lost.1 in
-              absurd (omega arith))
-          (tag_cases plan core of.0))
+      (λ (has : (row : Row) × (entry plan core of.0 ≡ Some row) × (tag plan core of.0 ≡ row_tag (of.0 + 1))).
+      let r : ℕ = of.0 in
+      let below : r < p.published = of.1 in
+      let t : word (tag_offset slots q) ≡ tag plan core r = of.4 in
+      let u : tag plan core r ≡ 4 * (r + 1) + 1 = has.2 in
+      let one : r ≡ q = omega arith in
+      ((has.0, subst (λ (k : ℕ). entry plan core k ≡ Some has.0) one has.1), omega arith))
+      (λ (lost : (entry plan core of.0 ≡ None) × (tag plan core of.0 ≡ lost_tag (of.0 + 1))).
+      let r : ℕ = of.0 in
+      let t : word (tag_offset slots q) ≡ tag plan core r = of.4 in
+      let u : tag plan core r ≡ 4 * (r + 1) + 2 = lost.1 in
+      absurd (omega arith))
+      (tag_cases plan core of.0))
       tag_in_slot
 
   lost_of_tag : (n : ℕ) → n ≡ lost_tag (q + 1) → (word (tag_offset slots q) ≡ n) → entry plan core q ≡ None
   lost_of_tag n is here = ⊎_elim
       (λ (none : word (tag_offset slots q) ≡ 0). absurd (omega arith))
       (λ (of : IsOfSlot). ⊎_elim
-          (λ (has : (row : Row) × (entry plan core of.0 ≡ Some row) × (tag plan core of.0 ≡ row_tag (of.0 + 1))).
-              let r : ℕ = of.0 in
-              let t : word (tag_offset slots q) ≡ tag plan core r = of.4 in
-              let u : tag plan core r ≡ 4 * (r + 1) + 1 = has.2 in
-              absurd (omega arith))
-          (λ (lost : (entry plan core of.0 ≡ None) × (tag plan core of.0 ≡ lost_tag (of.0 + 1))).
-              let r : ℕ = of.0 in
-              let t : word (tag_offset slots q) ≡ tag plan core r = of.4 in
-              let u : tag plan core r ≡ 4 * (r + 1) + 2 = lost.1 in
-              let one : r ≡ q = omega arith in
-              subst (λ (k : ℕ). entry plan core k ≡ None) one lost.0)
-          (tag_cases plan core of.0))
+      (λ (has : (row : Row) × (entry plan core of.0 ≡ Some row) × (tag plan core of.0 ≡ row_tag (of.0 + 1))).
+      let r : ℕ = of.0 in
+      let t : word (tag_offset slots q) ≡ tag plan core r = of.4 in
+      let u : tag plan core r ≡ 4 * (r + 1) + 1 = has.2 in
+      absurd (omega arith))
+      (λ (lost : (entry plan core of.0 ≡ None) × (tag plan core of.0 ≡ lost_tag (of.0 + 1))).
+      let r : ℕ = of.0 in
+      let t : word (tag_offset slots q) ≡ tag plan core r = of.4 in
+      let u : tag plan core r ≡ 4 * (r + 1) + 2 = lost.1 in
+      let one : r ≡ q = omega arith in
+      subst (λ (k : ℕ). entry plan core k ≡ None) one lost.0)
+      (tag_cases plan core of.0))
       tag_in_slot
 
   number_of_tag : (n : ℕ) → n ≢ row_tag (q + 1) → n ≢ lost_tag (q + 1) → (word (tag_offset slots q) ≡ n) → tag_number n < q + 1
   number_of_tag n not_row not_lost here = ⊎_elim
       (λ (none : word (tag_offset slots q) ≡ 0). omega arith)
       (λ (of : IsOfSlot).
-          let r : ℕ = of.0 in
-          let most : r ≤ q = of.2 in
-          let t : word (tag_offset slots q) ≡ tag plan core r = of.4 in
-          ⊎_elim
-          (λ (has : (row : Row) × (entry plan core of.0 ≡ Some row) × (tag plan core of.0 ≡ row_tag (of.0 + 1))).
-              let u : tag plan core r ≡ 4 * (r + 1) + 1 = has.2 in
-              omega arith)
-          (λ (lost : (entry plan core of.0 ≡ None) × (tag plan core of.0 ≡ lost_tag (of.0 + 1))).
-              let u : tag plan core r ≡ 4 * (r + 1) + 2 = lost.1 in
-              omega arith)
-          (tag_cases plan core of.0))
+      let r : ℕ = of.0 in
+      let most : r ≤ q = of.2 in
+      let t : word (tag_offset slots q) ≡ tag plan core r = of.4 in
+      ⊎_elim
+      (λ (has : (row : Row) × (entry plan core of.0 ≡ Some row) × (tag plan core of.0 ≡ row_tag (of.0 + 1))).
+      let u : tag plan core r ≡ 4 * (r + 1) + 1 = has.2 in
+      omega arith)
+      (λ (lost : (entry plan core of.0 ≡ None) × (tag plan core of.0 ≡ lost_tag (of.0 + 1))).
+      let u : tag plan core r ≡ 4 * (r + 1) + 2 = lost.1 in
+      omega arith)
+      (tag_cases plan core of.0))
       tag_in_slot
 
   was_of_slot : (n : ℕ) → (word (tag_offset slots q) ≡ n)
@@ -253,7 +256,6 @@ module _ (plan : Plan) (slots : ℕ) (words : List ℕ) (views : List PassView) 
     (id : ℕ) (v : PassView) (there : get_elem? views id ≡ some v) (b j : ℕ) (mine : v.core ≡ Some b)
     (other : j ≢ b) (below : j < plan.cores) (current : v.published ≡ v.finished + 1) (n : ℕ)
     (here : core_words slots words j (tag_offset slots v.finished) ≡ n) where
-
   theirs : IsLog plan slots j (rule.progress j) (core_words slots words j)
   theirs = rule.logs j below
 
@@ -278,11 +280,14 @@ module _ (plan : Plan) (slots : ℕ) (words : List ℕ) (views : List PassView) 
   }
 
   was_there : WasThere plan slots words rule.progress (Tag j (v.finished + 1) n)
-  was_there = (below, ⊎_elim (λ (none : n ≡ 0). inl none)
-      (λ (of : (r : ℕ) × (r < (rule.progress j).published) × (r % slots ≡ v.finished % slots) × (n ≡ tag plan j r)).
-          let same : v.finished ≡ v.finished + 1 - 1 = omega arith in
-          inr (of.0, of.1, of.2 ∙ ap (λ (k : ℕ). k % slots) same, of.3))
-      (was_of_slot plan slots j rule.some_slots (rule.progress j) (core_words slots words j) theirs v.finished turn n here))
+  was_there = (
+    below,
+    ⊎_elim (λ (none : n ≡ 0). inl none)
+        (λ (of : (r : ℕ) × (r < (rule.progress j).published) × (r % slots ≡ v.finished % slots) × (n ≡ tag plan j r)).
+        let same : v.finished ≡ v.finished + 1 - 1 = omega arith in
+        inr (of.0, of.1, of.2 ∙ ap (λ (k : ℕ). k % slots) same, of.3))
+        (was_of_slot plan slots j rule.some_slots (rule.progress j) (core_words slots words j) theirs v.finished turn n here),
+  )
 
   tag_pass : IsPass plan slots words rule.progress rule.owner id (tag_seen v j n)
   tag_pass = pass_with plan slots words rule.progress rule.owner id v (Tag j (v.finished + 1) n) v.halts was_there pass
@@ -311,9 +316,9 @@ module _ (plan : Plan) (slots : ℕ) (words : List ℕ) (views : List PassView) 
     core = λ core its. core_pass_with plan slots words rule.progress rule.owner id v core (v.looks ++ Tag j (v.finished + 1) n ∷ []) v.halts
         (Some (record { core = j; number = v.finished + 1 }))
         (λ found is_it.
-            let note : Found = record { core = j; number = v.finished + 1 } in
-            let same : note ≡ found = cc in
-            subst (λ (z : ℕ × Found). IsFound plan rule.progress z.0 (progress_of v) z.1) (λ k. (sym (one_core core its) k, same k)) (is_found is))
+        let note : Found = record { core = j; number = v.finished + 1 } in
+        let same : note ≡ found = cc in
+        subst (λ (z : ℕ × Found). IsFound plan rule.progress z.0 (progress_of v) z.1) (λ k. (sym (one_core core its) k, same k)) (is_found is))
         (pass.core core its);
   }
 
@@ -326,9 +331,9 @@ loads_tag plan slots homes id me b j i mine other below current is s rule _ ther
     let here : core_words slots s.words j (tag_offset slots v.finished) ≡ n = ap (λ (place : ℕ). slice_index s.words place) (sym is) in
     let within = at.tag_offset-below slots rule.some_slots v.finished in
     let one : (core : ℕ) → i ≡ place v.slots core (tag_offset v.slots v.finished) → j ≡ core = λ core its.
-        let its' : i ≡ place slots core (tag_offset slots v.finished) =
-            subst (λ (k : ℕ). i ≡ place k core (tag_offset k v.finished)) (rule.passes id v there).same_slots its in
-        at.place-core slots j core (tag_offset slots v.finished) (tag_offset slots v.finished) within within (sym is ∙ its') in
+    let its' : i ≡ place slots core (tag_offset slots v.finished) =
+    subst (λ (k : ℕ). i ≡ place k core (tag_offset k v.finished)) (rule.passes id v there).same_slots its in
+    at.place-core slots j core (tag_offset slots v.finished) (tag_offset slots v.finished) within within (sym is ∙ its') in
     let told = tells plan slots s.words s.views rule id v there b j mine other below current n here in
     dite (ℕ_discrete n (row_tag (v.finished + 1)))
     (λ (row : n ≡ row_tag (v.finished + 1)). (
@@ -354,7 +359,6 @@ loads_tag plan slots homes id me b j i mine other below current is s rule _ ther
 module _ (plan : Plan) (slots : ℕ) (words : List ℕ) (views : List PassView) (rule : LogRule plan slots words views)
     (id : ℕ) (v : PassView) (there : get_elem? views id ≡ some v) (b : ℕ) (mine : v.core ≡ Some b)
     (found : Found) (has : v.found ≡ Some found) where
-
   the_pass : IsPass plan slots words rule.progress rule.owner id v
   the_pass = rule.passes id v there
 
@@ -375,21 +379,21 @@ module _ (plan : Plan) (slots : ℕ) (words : List ℕ) (views : List PassView) 
       let turn : (rule.progress j).published ≤ (rule.progress b).finished + slots = clear.published in
       (rule.logs j f.below).rows v.finished i row (omega arith) (omega arith)
       (dite (ℕ_discrete (rule.progress j).stored 0)
-          (λ (none : (rule.progress j).stored ≡ 0). inr (omega arith))
-          (λ some_stored.
-              let more : (rule.progress j).published + 1 ≤ (rule.progress b).finished + slots = clear.writing (omega arith) in
-              inl (omega arith)))
+      (λ (none : (rule.progress j).stored ≡ 0). inr (omega arith))
+      (λ some_stored.
+      let more : (rule.progress j).published + 1 ≤ (rule.progress b).finished + slots = clear.writing (omega arith) in
+      inl (omega arith)))
       few its
 
   told_word : (homes place_of n : ℕ) → n ≡ slice_index words place_of → IsWordFound (step homes place_of 0 0 none) v n
   told_word homes place_of n is other i row its few at_place entry_is =
       let one : found ≡ other = let both : Some found ≡ Some other = sym has ∙ its in cc in
       let at' : place_of ≡ place slots other.core (data_offset slots v.finished i) =
-          subst (λ (k : ℕ). place_of ≡ place k other.core (data_offset k v.finished i)) the_pass.same_slots at_place in
+      subst (λ (k : ℕ). place_of ≡ place k other.core (data_offset k v.finished i)) the_pass.same_slots at_place in
       let at'' : place_of ≡ place slots found.core (data_offset slots v.finished i) =
-          subst (λ (f : Found). place_of ≡ place slots f.core (data_offset slots v.finished i)) (sym one) at' in
+      subst (λ (f : Found). place_of ≡ place slots f.core (data_offset slots v.finished i)) (sym one) at' in
       let entry' : entry plan found.core v.finished ≡ Some row =
-          subst (λ (z : Plan × Found). entry z.0 z.1.core v.finished ≡ Some row) (λ k. (the_pass.same_plan k, sym one k)) entry_is in
+      subst (λ (z : Plan × Found). entry z.0 z.1.core v.finished ≡ Some row) (λ k. (the_pass.same_plan k, sym one k)) entry_is in
       is ∙ (ap (λ (p : ℕ). slice_index words p) at'' ∙ word_stands i row few entry')
 
   last_pass : IsPass plan slots words rule.progress rule.owner id (record v { found = None })

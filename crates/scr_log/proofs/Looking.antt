@@ -28,9 +28,9 @@ word_read logs table me core p at i n step reading here few it told row is =
     let q : ℕ = v.finished in
     told (record { core = core; number = p }) i row reading.found few
     (subst (λ (slots : ℕ). step.word ≡ place slots core (data_offset slots q i)) (sym reading.same_slots)
-        (it ∙ data_place logs.slots core p q at i reading.current here))
+    (it ∙ data_place logs.slots core p q at i reading.current here))
     (subst (λ (plan : Plan). entry plan core q ≡ Some row) (sym reading.same_plan)
-        (final_entry-from_zero logs.plan core p q reading.current ∙ is))
+    (final_entry-from_zero logs.plan core p q reading.current ∙ is))
 
 -- a row was found
 pub reads : (logs : LogsOf) (table : TableId) (me after : Mine) (own core p n : ℕ) → table ≡ logs.table → me.0.plan ≡ logs.plan → me.0.slots ≡ logs.slots
@@ -62,9 +62,11 @@ seen_after table next v own core p n same current =
 pub tells_lost : (plan : Plan) (me after : Mine) (core p n : ℕ) → me.0.plan ≡ plan → p ≡ me.0.finished + 1 → LoadsTagOf me core n after
     → n ≡ 4 * p + 2 → LookTells plan core p n Lost
 tells_lost plan me after core p n same current loaded is =
-    let tagged : n ≡ 4 * (me.0.finished + 1) + 2 = omega arith in
-    (is, sym (final_entry-from_zero plan core p me.0.finished current)
-        ∙ subst (λ (q : Plan). entry q core me.0.finished ≡ None) same (loaded.tells.lost tagged))
+    let tagged : n ≡ 4 * (me.0.finished + 1) + 2 = omega arith in (
+      is,
+      sym (final_entry-from_zero plan core p me.0.finished current)
+          ∙ subst (λ (q : Plan). entry q core me.0.finished ≡ None) same (loaded.tells.lost tagged),
+    )
 
 pub tells_not_yet : (plan : Plan) (me after : Mine) (core p n : ℕ) → p ≡ me.0.finished + 1 → LoadsTagOf me core n after
     → n ≢ 4 * p + 1 → n ≢ 4 * p + 2 → LookTells plan core p n (NotYet n)

@@ -25,7 +25,7 @@ taken b o yes_it none = sym (ap (λ (c : Bool). if c then o else None) yes_it) �
 a_row : (plan : Plan) (p : ℕ) → 1 ≤ p → p ≤ frame_count plan → row_of plan p ≢ None
 a_row plan p from to none = ⊎_elim
     (λ (there : (x : Row) × (p - 1 < length plan.rows) × (slice_get plan.rows (p - 1) ≡ Some x) × _).
-        let both : Some there.0 ≡ None = sym there.2 ∙ none in absurd (cc))
+    let both : Some there.0 ≡ None = sym there.2 ∙ none in absurd (cc))
     (λ (past : (length plan.rows ≤ p - 1) × _). let less = past.0 in absurd (omega arith))
     (slice_get_cases plan.rows (p - 1)).1
 
@@ -36,8 +36,8 @@ lost_to_all plan p some from lost = false_from_ne_true (keeps plan p) (λ kept.
     let core : ℕ = core_number plan.cores is.frame in
     let below : core < plan.cores = omega arith in
     let carried : carries_to plan core p ≡ true =
-        (Decides-carried plan.drops plan.cores plan.history (frame_count plan) core p).1
-        (record { frame = is.frame; is_delivered = record { is = is.is_delivered; its_core = refl }; carries_it = is.carries_it }) in
+    (Decides-carried plan.drops plan.cores plan.history (frame_count plan) core p).1
+    (record { frame = is.frame; is_delivered = record { is = is.is_delivered; its_core = refl }; carries_it = is.carries_it }) in
     let within = is.is_delivered.to in
     let reaches = is.carries_it.to in
     a_row plan p from (omega arith) (taken (carries_to plan core p) (row_of plan p) carried (lost core below)))

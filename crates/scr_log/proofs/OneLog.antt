@@ -52,23 +52,23 @@ module _ (plan : Plan) (slots core : ℕ) (some : 0 < slots) (p : Progress) (wor
       rows = λ q i other a b stands less its.
           change.others _ (at.data_offset-below slots some q i less)
           (λ same. ⊎_elim
-              (λ (near : p.published < q + slots). at.slot-apart slots some q p.published a near
-                  (at.data-slot slots some q i p.published p.stored less few same))
-              (λ (above : p.stored + 1 ≤ i). let one = at.data-word slots some q i p.published p.stored less few same in absurd (omega arith))
-              stands)
+          (λ (near : p.published < q + slots). at.slot-apart slots some q p.published a near
+          (at.data-slot slots some q i p.published p.stored less few same))
+          (λ (above : p.stored + 1 ≤ i). let one = at.data-word slots some q i p.published p.stored less few same in absurd (omega arith))
+          stands)
           ∙ log.rows q i other a b
-              (⊎_elim (λ (near : p.published < q + slots). inl near) (λ (above : p.stored + 1 ≤ i). inr (omega arith)) stands) less its;
+          (⊎_elim (λ (near : p.published < q + slots). inl near) (λ (above : p.stored + 1 ≤ i). inr (omega arith)) stands) less its;
       few_stored = omega arith;
       may_write = λ _. record { idle = may.idle; left = may.left; row = may.row };
       written = λ i other less its.
           dite (ℕ_discrete i p.stored)
           (λ (same : i ≡ p.stored). subst (λ (j : ℕ). next (data_offset slots p.published j) ≡ row_word other j) (sym same)
-              (change.there ∙ ap (λ (r : Row). row_word r p.stored) (sym (one_row other its))))
+          (change.there ∙ ap (λ (r : Row). row_word r p.stored) (sym (one_row other its))))
           (λ differ.
-              let below : i < p.stored = omega arith in
-              change.others _ (at.data_offset-below slots some p.published i (omega arith))
-              (λ same. differ (at.data-word slots some p.published i p.published p.stored (omega arith) few same))
-              ∙ log.written i other below its);
+          let below : i < p.stored = omega arith in
+          change.others _ (at.data_offset-below slots some p.published i (omega arith))
+          (λ same. differ (at.data-word slots some p.published i p.published p.stored (omega arith) few same))
+          ∙ log.written i other below its);
     }
 
   -- the tag of the next number is stored
@@ -89,22 +89,22 @@ module _ (plan : Plan) (slots core : ℕ) (some : 0 < slots) (p : Progress) (wor
           dite (ℕ_discrete q p.published)
           (λ (same : q ≡ p.published). subst (λ (j : ℕ). next (tag_offset slots j) ≡ tag plan core j) (sym same) change.there)
           (λ differ.
-              let below : q < p.published = omega arith in
-              other_tag q (at.slot-apart slots some q p.published below (omega arith)) ∙ log.tags q below (omega arith));
+          let below : q < p.published = omega arith in
+          other_tag q (at.slot-apart slots some q p.published below (omega arith)) ∙ log.tags q below (omega arith));
       unset = λ q a b.
           other_tag q (λ same.
-              let one = at.slot-first slots some q b in
-              let two = at.slot-first slots some p.published (omega arith) in
-              absurd (omega arith))
+          let one = at.slot-first slots some q b in
+          let two = at.slot-first slots some p.published (omega arith) in
+          absurd (omega arith))
           ∙ log.unset q (omega arith) b;
       rows = λ q i row a b stands few is.
           change.others _ (at.data_offset-below slots some q i few) (λ same. at.tag-data slots some p.published q i few (sym same))
           ∙ dite (ℕ_discrete q p.published)
-              (λ (same : q ≡ p.published).
-                  let its : entry plan core p.published ≡ Some row = subst (λ (j : ℕ). entry plan core j ≡ Some row) same is in
-                  let all = whole row its in
-                  subst (λ (j : ℕ). word (data_offset slots j i) ≡ row_word row i) (sym same) (log.written i row (omega arith) its))
-              (λ differ. log.rows q i row (omega arith) (omega arith) (inl (omega arith)) few is);
+          (λ (same : q ≡ p.published).
+          let its : entry plan core p.published ≡ Some row = subst (λ (j : ℕ). entry plan core j ≡ Some row) same is in
+          let all = whole row its in
+          subst (λ (j : ℕ). word (data_offset slots j i) ≡ row_word row i) (sym same) (log.written i row (omega arith) its))
+          (λ differ. log.rows q i row (omega arith) (omega arith) (inl (omega arith)) few is);
       few_stored = omega arith;
       may_write = λ none. absurd (omega arith);
       written = λ i row none. absurd (omega arith);

@@ -42,17 +42,22 @@ there-below (x ∷ xs) (suc id) v e = let more = there-below xs id v e in omega 
 -- the halt word and how often it was set, where a pass goes on with the same count
 pub halt_kept : (views : List PassView) (id : ℕ) (v w : PassView) (word : ℕ) → get_elem? views id ≡ some v → w.halts ≡ v.halts
     → HaltIs views word → HaltIs (set views id w) word
-halt_kept views id v w word e same (inl none) = inl (none.0, λ j x there.
-    ⊎_elim (λ t. let at_id = none.1 id v e in let is : w.halts ≡ x.halts = ap (λ (p : PassView). p.halts) t.1 in omega arith)
-        (λ t. none.1 j x t.1) (at_set views id j w x there))
-halt_kept views id v w word e same (inr one) = let it = one.1 in inr (one.0,
-    dite (ℕ_discrete it.0 id)
-    (λ (here : it.0 ≡ id).
-        let its = subst (λ (j : ℕ). get_elem? views j ≡ some it.1) here it.2 in
-        let is : v.halts ≡ it.1.halts = ap (λ (p : PassView). p.halts) (some-injective v it.1 (sym e ∙ its)) in
-        let set_it = it.3 in
-        (id, w, set_here views id w (there-below views id v e), omega arith))
-    (λ else. (it.0, it.1, set_else views id it.0 w else ∙ it.2, it.3)))
+halt_kept views id v w word e same (inl none) = inl (
+  none.0,
+  λ j x there.
+      ⊎_elim (λ t. let at_id = none.1 id v e in let is : w.halts ≡ x.halts = ap (λ (p : PassView). p.halts) t.1 in omega arith)
+      (λ t. none.1 j x t.1) (at_set views id j w x there),
+)
+halt_kept views id v w word e same (inr one) = let it = one.1 in inr (
+  one.0,
+  dite (ℕ_discrete it.0 id)
+      (λ (here : it.0 ≡ id).
+      let its = subst (λ (j : ℕ). get_elem? views j ≡ some it.1) here it.2 in
+      let is : v.halts ≡ it.1.halts = ap (λ (p : PassView). p.halts) (some-injective v it.1 (sym e ∙ its)) in
+      let set_it = it.3 in
+      (id, w, set_here views id w (there-below views id v e), omega arith))
+      (λ else. (it.0, it.1, set_else views id it.0 w else ∙ it.2, it.3)),
+)
 
 -- what the words and the progress of the cores do in a step, as far as others rely on it: nothing falls
 pub record Later (plan : Plan) (slots : ℕ) (words next : List ℕ) (progress after : ℕ → Progress) : Type 0 where
@@ -64,8 +69,11 @@ pub record Later (plan : Plan) (slots : ℕ) (words next : List ℕ) (progress a
 module _ (plan : Plan) (slots : ℕ) (words next : List ℕ) (progress after : ℕ → Progress)
     (later : Later plan slots words next progress after) where
   pub look_stays : (l : Noted) → WasThere plan slots words progress l → WasThere plan slots next after l
-  look_stays (Tag core number value) was = (was.0, ⊎_elim (λ zero_tag. inl zero_tag)
-      (λ tagged. let more = later.published core in inr (tagged.0, omega arith, tagged.2, tagged.3)) was.1)
+  look_stays (Tag core number value) was = (
+    was.0,
+    ⊎_elim (λ zero_tag. inl zero_tag)
+        (λ tagged. let more = later.published core in inr (tagged.0, omega arith, tagged.2, tagged.3)) was.1,
+  )
   look_stays (Finished core value) was = let more = later.finished core in (was.0, omega arith)
   look_stays (Halt value) was = λ one. later.halt (was one)
   look_stays (Drawn number) was = let more = later.claim in (was.0, omega arith)
@@ -107,7 +115,6 @@ module _ (plan : Plan) (slots : ℕ) (words next : List ℕ) (progress after : �
 -- a step of the pass at a seat, which keeps its core
 module _ (plan : Plan) (slots : ℕ) (words : List ℕ) (views : List PassView) (rule : LogRule plan slots words views)
     (id : ℕ) (v : PassView) (there : get_elem? views id ≡ some v) (w : PassView) where
-
   pub record Goes (next : List ℕ) (after : ℕ → Progress) : Type 0 where
     pub same_core : w.core ≡ v.core
     pub same_length : length next ≡ length words
@@ -127,9 +134,9 @@ module _ (plan : Plan) (slots : ℕ) (words : List ℕ) (views : List PassView) 
   nobodys_before core same nobody j x at_j has =
       dite (ℕ_discrete j id)
       (λ (here : j ≡ id).
-          let both : some x ≡ some v = sym at_j ∙ (ap (λ (n : ℕ). get_elem? views n) here ∙ there) in
-          let is : x.core ≡ v.core = ap (λ (p : PassView). p.core) (some-injective x v both) in
-          nobody id w (set_here views id w (there-below views id v there)) (same ∙ (sym is ∙ has)))
+      let both : some x ≡ some v = sym at_j ∙ (ap (λ (n : ℕ). get_elem? views n) here ∙ there) in
+      let is : x.core ≡ v.core = ap (λ (p : PassView). p.core) (some-injective x v both) in
+      nobody id w (set_here views id w (there-below views id v there)) (same ∙ (sym is ∙ has)))
       (λ else. nobody j x (set_else views id j w else ∙ at_j) has)
 
   not_own : (core : ℕ) → IsNobodys views core → v.core ≢ Some core
@@ -159,8 +166,8 @@ module _ (plan : Plan) (slots : ℕ) (words : List ℕ) (views : List PassView) 
     passes = λ j x at_j. ⊎_elim
         (λ t. subst (λ (z : ℕ × PassView). IsPass plan slots next after rule.owner z.0 z.1) (λ i. (sym t.0 i, t.1 i)) step.pass)
         (λ t. pass_stays plan slots words next rule.progress after step.later rule.owner j x
-            (λ core has. let below = ((rule.passes j x t.1).core core has).below in (step.others core below (apart j x core t.0 t.1 has)).0)
-            (rule.passes j x t.1))
+        (λ core has. let below = ((rule.passes j x t.1).core core has).below in (step.others core below (apart j x core t.0 t.1 has)).0)
+        (rule.passes j x t.1))
         (at_set views id j w x at_j);
     halt = step.halt;
   } where
@@ -170,8 +177,8 @@ module _ (plan : Plan) (slots : ℕ) (words : List ℕ) (views : List PassView) 
     log_after next after step core below (no not) =
         let same = step.others core below not in
         subst (λ (p : Progress). IsLog plan slots core p (core_words slots next core)) (sym same.0)
-            (same_log plan slots core rule.some_slots (rule.progress core) (core_words slots words core) (core_words slots next core)
-                (rule.logs core below) same.1)
+        (same_log plan slots core rule.some_slots (rule.progress core) (core_words slots words core) (core_words slots next core)
+        (rule.logs core below) same.1)
 
     cleared_after : (next : List ℕ) (after : ℕ → Progress) → Goes next after → (core j : ℕ) → core < plan.cores → j < plan.cores → core ≢ j
         → Dec (v.core ≡ Some core) → IsCleared slots (after core) (after j)
@@ -183,4 +190,4 @@ module _ (plan : Plan) (slots : ℕ) (words : List ℕ) (views : List PassView) 
         let one = was.published in
         let two = was.writing in
         subst (λ (p : Progress). IsCleared slots p (after j)) (sym same)
-            (record { published = omega arith; writing = λ some_stored. let it = two some_stored in omega arith })
+        (record { published = omega arith; writing = λ some_stored. let it = two some_stored in omega arith })

@@ -32,7 +32,6 @@ updated-other progress core next c else = ap (λ b. cond b next (progress c)) (n
 module _ (plan : Plan) (slots : ℕ) (words : List ℕ) (views : List PassView) (rule : LogRule plan slots words views)
     (id : ℕ) (v : PassView) (there : get_elem? views id ≡ some v) (core : ℕ) (mine : v.core ≡ Some core)
     (offset : ℕ) (within : offset < core_size slots) (n : ℕ) where
-
   pass : IsPass plan slots words rule.progress rule.owner id v
   pass = rule.passes id v there
 
@@ -75,22 +74,21 @@ module _ (plan : Plan) (slots : ℕ) (words : List ℕ) (views : List PassView) 
         (room : (j : ℕ) → j < plan.cores → j ≢ core → published ≤ slice_index v.noted j + slots)
         (room_to_write : (j : ℕ) → j < plan.cores → j ≢ core → 0 < stored → published + 1 ≤ slice_index v.noted j + slots)
         (not_found : v.found ≡ None) where
-
       own_before : rule.progress core ≡ progress_of v
       own_before = its.own
 
       published_later : (j : ℕ) → (rule.progress j).published ≤ (updated rule.progress core after_progress j).published
       published_later j = dite (ℕ_discrete j core)
           (λ (same : j ≡ core). subst (λ (k : ℕ). (rule.progress k).published ≤ (updated rule.progress core after_progress k).published) (sym same)
-              (let now = ap (λ (p : Progress). p.published) (updated-same rule.progress core after_progress) in
-              let was = ap (λ (p : Progress). p.published) own_before in omega arith))
+          (let now = ap (λ (p : Progress). p.published) (updated-same rule.progress core after_progress) in
+          let was = ap (λ (p : Progress). p.published) own_before in omega arith))
           (λ else. let now = ap (λ (p : Progress). p.published) (updated-other rule.progress core after_progress j else) in omega arith)
 
       finished_later : (j : ℕ) → (rule.progress j).finished ≤ (updated rule.progress core after_progress j).finished
       finished_later j = dite (ℕ_discrete j core)
           (λ (same : j ≡ core). subst (λ (k : ℕ). (rule.progress k).finished ≤ (updated rule.progress core after_progress k).finished) (sym same)
-              (let now = ap (λ (p : Progress). p.finished) (updated-same rule.progress core after_progress) in
-              let was = ap (λ (p : Progress). p.finished) own_before in omega arith))
+          (let now = ap (λ (p : Progress). p.finished) (updated-same rule.progress core after_progress) in
+          let was = ap (λ (p : Progress). p.finished) own_before in omega arith))
           (λ else. let now = ap (λ (p : Progress). p.finished) (updated-other rule.progress core after_progress j else) in omega arith)
 
       later : Later plan slots words (slice_set words (place slots core offset) n) rule.progress (updated rule.progress core after_progress)
@@ -143,21 +141,22 @@ module _ (plan : Plan) (slots : ℕ) (words : List ℕ) (views : List PassView) 
             let same = claim_stays in let total = total-kept views id v after_view there refl in let was = rule.stocks in omega arith;
         later = later;
         others = λ c less not.
-            let else : c ≢ core = λ same. not (mine ∙ ap (λ (k : ℕ). Some k) (sym same)) in
-            (updated-other rule.progress core after_progress c else,
-            λ other below. get_or-set_other words (place slots core offset) (place slots c other) n 0
-                (λ same. else (at.place-core slots c core other offset below within same)));
+            let else : c ≢ core = λ same. not (mine ∙ ap (λ (k : ℕ). Some k) (sym same)) in (
+              updated-other rule.progress core after_progress c else,
+              λ other below. get_or-set_other words (place slots core offset) (place slots c other) n 0
+                  (λ same. else (at.place-core slots c core other offset below within same)),
+            );
         log = λ c less has. subst
             (λ (k : ℕ). IsLog plan slots k (updated rule.progress core after_progress k) (core_words slots (slice_set words (place slots core offset) n) k))
             (sym (one_core c has))
             (subst (λ (p : Progress). IsLog plan slots core p (core_words slots (slice_set words (place slots core offset) n) core))
-                (sym (updated-same rule.progress core after_progress)) log);
+            (sym (updated-same rule.progress core after_progress)) log);
         cleared = λ c j less below differ has.
             let same = one_core c has in
             let else : j ≢ core = λ is. differ (same ∙ sym is) in
             subst (λ (k : ℕ). IsCleared slots (updated rule.progress core after_progress k) (updated rule.progress core after_progress j)) (sym same)
-                (subst (λ (p : Progress). IsCleared slots p (updated rule.progress core after_progress j))
-                    (sym (updated-same rule.progress core after_progress)) (clear j below else));
+            (subst (λ (p : Progress). IsCleared slots p (updated rule.progress core after_progress j))
+            (sym (updated-same rule.progress core after_progress)) (clear j below else));
         pass = after_pass;
         halt = subst (λ (h : ℕ). HaltIs (set views id after_view) h) (sym halt_stays)
             (halt_kept views id v after_view (slice_index words (halt_place plan.cores slots)) there refl rule.halt);
@@ -181,15 +180,15 @@ stores_word plan slots homes id me core i n row mine not_found idle left is few 
     let change = changed plan slots s.words s.views rule id v there core mine offset within n in
     let change' = subst (λ (k : ℕ). IsChangedAt slots offset k (core_words slots s.words core) (core_words slots (slice_set s.words (place slots core offset) n) core)) value change in
     let log = data_stored plan slots core rule.some_slots (progress_of v) (core_words slots s.words core)
-        (core_words slots (slice_set s.words (place slots core offset) n) core)
-        (the_log plan slots s.words s.views rule id v there core mine offset within n) row may few is change' in (
+    (core_words slots (slice_set s.words (place slots core offset) n) core)
+    (the_log plan slots s.words s.views rule id v there core mine offset within n) row may few is change' in (
       record v { stored = v.stored + 1 },
       keeps,
       tt,
       subst (λ (k : ℕ). LogRule plan slots (slice_set s.words k n) (set s.views id (record v { stored = v.stored + 1 }))) (sym here)
           (stores plan slots s.words s.views rule id v there core mine offset within n v.published (v.stored + 1) v.finished log
-              (omega arith) (omega arith)
-              (λ j less else. let r = room j less else in omega arith) (λ j less else _. room j less else) not_found),
+          (omega arith) (omega arith)
+          (λ j less else. let r = room j less else in omega arith) (λ j less else _. room j less else) not_found),
       refl,
     )
 
@@ -206,14 +205,14 @@ stores_tag plan slots homes id me core i n mine not_found idle left whole room v
     let change = changed plan slots s.words s.views rule id v there core mine offset within n in
     let change' = subst (λ (k : ℕ). IsChangedAt slots offset k (core_words slots s.words core) (core_words slots (slice_set s.words (place slots core offset) n) core)) value change in
     let log = tag_stored plan slots core rule.some_slots (progress_of v) (core_words slots s.words core)
-        (core_words slots (slice_set s.words (place slots core offset) n) core)
-        (the_log plan slots s.words s.views rule id v there core mine offset within n) idle left whole change' in (
+    (core_words slots (slice_set s.words (place slots core offset) n) core)
+    (the_log plan slots s.words s.views rule id v there core mine offset within n) idle left whole change' in (
       record v { published = v.published + 1; stored = 0 },
       keeps,
       tt,
       subst (λ (k : ℕ). LogRule plan slots (slice_set s.words k n) (set s.views id (record v { published = v.published + 1; stored = 0 }))) (sym here)
           (stores plan slots s.words s.views rule id v there core mine offset within n (v.published + 1) 0 v.finished log
-              (omega arith) (omega arith) room (λ j less else none. absurd (omega arith)) not_found),
+          (omega arith) (omega arith) room (λ j less else none. absurd (omega arith)) not_found),
       refl,
     )
 
@@ -229,14 +228,14 @@ stores_finished plan slots homes id me core i n mine not_found current value her
     let change = changed plan slots s.words s.views rule id v there core mine offset within n in
     let change' = subst (λ (k : ℕ). IsChangedAt slots offset k (core_words slots s.words core) (core_words slots (slice_set s.words (place slots core offset) n) core)) value change in
     let log = finished_stored plan slots core rule.some_slots (progress_of v) (core_words slots s.words core)
-        (core_words slots (slice_set s.words (place slots core offset) n) core)
-        (the_log plan slots s.words s.views rule id v there core mine offset within n) current change' in
+    (core_words slots (slice_set s.words (place slots core offset) n) core)
+    (the_log plan slots s.words s.views rule id v there core mine offset within n) current change' in
     let c = (rule.passes id v there).core core mine in (
       record v { finished = v.finished + 1 },
       keeps,
       tt,
       subst (λ (k : ℕ). LogRule plan slots (slice_set s.words k n) (set s.views id (record v { finished = v.finished + 1 }))) (sym here)
           (stores plan slots s.words s.views rule id v there core mine offset within n v.published v.stored (v.finished + 1) log
-              (omega arith) (omega arith) c.room c.room_to_write not_found),
+          (omega arith) (omega arith) c.room c.room_to_write not_found),
       refl,
     )

@@ -37,19 +37,16 @@ pub record IsLog (plan : Plan) (slots core : ℕ) (progress : Progress) (word : 
   pub finished_next : progress.published ≤ progress.finished + 1
   pub within : progress.published ≤ frame_count plan
   pub finished_word : word (finished_offset slots) ≡ progress.finished
-
   -- a slot has the tag of the last number that was published in it, or 0
   pub tags :
       (q : ℕ) → q < progress.published → progress.published ≤ q + slots → word (tag_offset slots q) ≡ tag plan core q
   pub unset : (q : ℕ) → progress.published ≤ q → q < slots → word (tag_offset slots q) ≡ 0
-
   -- where that tag says that there is a row, the words are those of the row, but for those that the next row in this slot
   -- has taken over
   pub rows :
       (q i : ℕ) (row : Row) → q < progress.published → progress.published ≤ q + slots
       → (progress.published < q + slots) ⊎ (progress.stored ≤ i) → i < 7
       → entry plan core q ≡ Some row → word (data_offset slots q i) ≡ row_word row i
-
   -- the row that is being written
   pub few_stored : progress.stored ≤ 7
   pub may_write : 0 < progress.stored → MayWrite plan core progress
@@ -74,14 +71,12 @@ pub record IsCorePass (plan : Plan) (slots : ℕ) (words : List ℕ) (progress :
   pub drawn : core < slice_index words (claim_place plan.cores slots)
   pub only : owner core ≡ id
   pub own : progress core ≡ progress_of v
-
   -- its noted finished numbers are never above the finished words, and each slot that it uses again is free by them
   pub each_core : length v.noted ≡ plan.cores
   pub noted : (j : ℕ) → j < plan.cores → slice_index v.noted j ≤ (progress j).finished
   pub room : (j : ℕ) → j < plan.cores → j ≢ core → v.published ≤ slice_index v.noted j + slots
   pub room_to_write :
       (j : ℕ) → j < plan.cores → j ≢ core → 0 < v.stored → v.published + 1 ≤ slice_index v.noted j + slots
-
   pub found : (found : Found) → v.found ≡ Some found → IsFound plan progress core (progress_of v) found
 
 -- a look gave a value that was there: a tag that is 0 or of a number that the core has published in that slot, a finished
@@ -129,7 +124,6 @@ pub record LogRule (plan : Plan) (slots : ℕ) (words : List ℕ) (views : List 
   -- how far each core has come, and which pass has it: so no two passes have one core
   pub progress : ℕ → Progress
   pub owner : ℕ → ℕ
-
   pub some_slots : 0 < slots
   pub all_words : length words ≡ word_count plan.cores slots
   pub stocks : slice_index words (claim_place plan.cores slots) + total_stock views ≤ 2 ^ 32

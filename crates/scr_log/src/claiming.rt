@@ -1,11 +1,11 @@
-ghost use Rattle.std.specs.Prelude.{◌≡◌, ◌≤◌, ◌<◌, ◌-◌, ℕ, IfOk, IfErr};
+ghost use Rattle.std.specs.Prelude.{◌≡◌, ◌≤◌, ◌<◌, ◌-◌, IfOk, IfErr};
 ghost use Rattle.scr_log.specs.Passes.{split_off, claimed, came_late};
 
 use crate::logs::Logs;
 use crate::pass::{CorePass, FreePass};
 use crate::rule::{DrawsNumber, HandsOn};
 
-/// A pass came too late for a core: it drew this number, and all cores have lower ones.
+/// A pass came too late for a core. It drew this number: all cores have lower ones.
 #[derive(Drop)]
 pub struct Late {
     pub pass: FreePass,

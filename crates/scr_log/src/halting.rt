@@ -12,9 +12,8 @@ impl Logs {
         requires { pass.old.logs ≡ self.now }
         ensures { pass.new ≡ record pass.old { halts = pass.old.halts + 1 } }
     {
-        self.table
-            .shared
-            .fetch_or::<Halts>(&mut pass.seat, self.halt_place(), 1);
+        let at = self.halt_place();
+        self.table.shared.fetch_or::<Halts>(&mut pass.seat, at, 1);
     }
 
     /// The same by a pass that has no core.
@@ -22,9 +21,8 @@ impl Logs {
         requires { pass.old.logs ≡ self.now }
         ensures { pass.new ≡ record pass.old { halts = pass.old.halts + 1 } }
     {
-        self.table
-            .shared
-            .fetch_or::<Halts>(&mut pass.seat, self.halt_place(), 1);
+        let at = self.halt_place();
+        self.table.shared.fetch_or::<Halts>(&mut pass.seat, at, 1);
     }
 
     /// Whether the halt word was 1 when this call loaded it.
@@ -32,10 +30,8 @@ impl Logs {
         requires { pass.old.logs ≡ self.now }
         ensures { (value : ℕ) × (pass.new ≡ looked pass.old (Halt value)) × (IsTrue result ↔ (value ≡ 1)) }
     {
-        let value = self
-            .table
-            .shared
-            .load::<ReadsHalt>(&mut pass.seat, self.halt_place());
+        let at = self.halt_place();
+        let value = self.table.shared.load::<ReadsHalt>(&mut pass.seat, at);
         value == 1
     }
 
@@ -44,10 +40,8 @@ impl Logs {
         requires { pass.old.logs ≡ self.now }
         ensures { (value : ℕ) × (pass.new ≡ record pass.old { looks = pass.old.looks ++ Halt value ∷ [] }) × (IsTrue result ↔ (value ≡ 1)) }
     {
-        let value = self
-            .table
-            .shared
-            .load::<ReadsHalt>(&mut pass.seat, self.halt_place());
-        value == 1
+        let at = self.halt_place();
+        let word = self.table.shared.load::<ReadsHalt>(&mut pass.seat, at);
+        word == 1
     }
 }

@@ -1,9 +1,9 @@
-ghost use Rattle.std.specs.Prelude.{◌≡◌, ◌≤◌, ◌<◌, ◌+◌, ◌-◌, ℕ, IfOk};
-ghost use Rattle.scr_log.specs.Layout.{place, tag_offset, finished_offset, claim_place, halt_place};
-ghost use Rattle.scr_log.specs.Passes.{LogsOf, IsLogs, first_pass};
+ghost use Rattle.std.specs.Prelude.{◌≡◌, ◌≤◌, IfOk};
+ghost use Rattle.scr_log.specs.Layout.{word_count};
+ghost use Rattle.scr_log.specs.Passes.{IsLogs, first_pass};
 
 use crate::pass::FreePass;
-use crate::rule::{LogRules, Words};
+use crate::rule::LogRules;
 use crate::view::{About, PassView};
 use atomic_table::Table;
 use scr_base::OutOfMemory;
@@ -50,6 +50,7 @@ impl Logs {
         requires few_slots { slots ≤ 4096 }
         ensures plan { IfOk result (λ made. made.0.plan ≡ plan.now) }
         ensures slots { IfOk result (λ made. made.0.slots ≡ slots) }
+        ensures words { IfOk result (λ made. made.0.table.words ≡ word_count plan.now.cores slots) }
         ensures logs { IfOk result (λ made. IsLogs made.0) }
         ensures pass { IfOk result (λ made. made.1 ≡ first_pass made.0) }
     {

@@ -1,4 +1,4 @@
-ghost use Rattle.std.specs.Prelude.{◌≡◌, ◌≢◌, ◌≤◌, ◌<◌, ◌+◌, ◌-◌, ℕ, Some, None, false};
+ghost use Rattle.std.specs.Prelude.{◌≡◌, ◌≢◌, ◌<◌, ◌+◌, ◌-◌, ℕ, false};
 ghost use Rattle.scr_base.specs.declared.row.Row as rows;
 ghost use Rattle.scr_plan.specs.Plan.{keeps};
 ghost use Rattle.scr_plan.specs.FinalEntry.{final_entry};

@@ -1,9 +1,7 @@
-ghost use Rattle.std.specs.Prelude.{◌≡◌, ◌≤◌, ◌<◌, ◌-◌, ◌+◌, ℕ};
-ghost use Rattle.scr_log.specs.Passes.{LogsOf, Free, OfCore, split_off};
-ghost use Rattle.scr_log.specs.Seats.{free_seen, core_seen, IsFreeSeat, IsCoreSeat};
+ghost use Rattle.std.specs.Prelude.{◌≡◌, ◌<◌};
+ghost use Rattle.scr_log.specs.Seats.{free_seen, IsFreeSeat};
 
-use crate::logs::Logs;
-use crate::rule::{HandsOn, Place};
+use crate::rule::Place;
 use std::marker::Model;
 
 /// A pass with no core yet. It can be split, and each part can claim a core.

@@ -1,5 +1,5 @@
 // Where the words stand.
-ghost use Rattle.std.specs.Prelude.{◌≡◌, ◌≤◌, ◌<◌, ◌+◌, ◌-◌, ℕ};
+ghost use Rattle.std.specs.Prelude.{◌≡◌, ◌≤◌, ◌<◌, ◌+◌, ◌-◌};
 ghost use Rattle.scr_log.specs.Layout.{place, tag_offset, finished_offset, claim_place, halt_place};
 
 use crate::logs::Logs;

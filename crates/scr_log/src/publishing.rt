@@ -1,4 +1,4 @@
-ghost use Rattle.std.specs.Prelude.{◌≡◌, ◌≤◌, ◌<◌, ◌+◌, ◌-◌, ◌*◌, ℕ, Some, None};
+ghost use Rattle.std.specs.Prelude.{◌≡◌, ◌≤◌, ◌<◌, ◌+◌, ◌-◌};
 ghost use Rattle.scr_base.specs.declared.row.Row.{Row};
 ghost use Rattle.scr_plan.specs.Plan.{frame_count};
 ghost use Rattle.scr_plan.specs.FinalEntry.{final_entry};

@@ -23,9 +23,7 @@ impl Logs {
         ensures each_core { length pass.old.noted ≡ self.now.plan.cores }
     {
         let at = self.finished_place(core);
-        self.table
-            .shared
-            .load::<ReadsFinished>(&mut pass.seat, at)
+        self.table.shared.load::<ReadsFinished>(&mut pass.seat, at)
     }
 
     /// Whether each other core has finished the packet whose slot p takes over.

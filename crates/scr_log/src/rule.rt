@@ -1,6 +1,6 @@
 // The log rule as the rule of a table, and its kinds of step.
 use crate::view::{About, PassView};
-use atomic_table::{Play, Seat, Shared, Split, TableRule};
+use atomic_table::{Play, Seat, Split, TableRule};
 
 /// The log rule.
 pub struct LogRules;
@@ -14,9 +14,6 @@ impl TableRule<(), PassView, About> for LogRules {
 
     ghost first = { λ about. free_view about.plan.value about.slots all_draws [] 0 };
 }
-
-/// The words that the passes share.
-pub type Words = Shared<(), PassView, About, LogRules>;
 
 /// A pass, as the table knows it.
 pub type Place = Seat<(), PassView>;

@@ -48,10 +48,10 @@ read_row-requires-clause-reading c =
     let at_hand = c.requires.current in
     let current : p ≡ me.0.finished + 1 = omega arith in
     let loaded : LoadsTagOf me core n c.load-tag.new.seat.me = c.load-tag.ensures.2 core
-        (subst (λ (q : Plan). core < q.cores) (sym plan) c.requires.core)
-        (c.tag_place-at.ensures.place
-        ∙ ap (λ (k : ℕ). place k core (tag_offset k (p - 1))) (sym slots)
-        ∙ place-from_zero me.0.slots core p me.0.finished current) in
+    (subst (λ (q : Plan). core < q.cores) (sym plan) c.requires.core)
+    (c.tag_place-at.ensures.place
+    ∙ ap (λ (k : ℕ). place k core (tag_offset k (p - 1))) (sym slots)
+    ∙ place-from_zero me.0.slots core p me.0.finished current) in
     let number = c.from-number.ensures in
     let tagged = c.if-tag-number.true in
     reads c.args.self.now c.load-tag.new.seat.table_id me c.load-tag.new.seat.me c.pass.inside.core core p n
@@ -70,30 +70,31 @@ returns-after-tag-number-2-clause-answer c =
     let at_hand = c.requires.current in
     let current : p ≡ me.0.finished + 1 = omega arith in
     let loaded : LoadsTagOf me core n c.load-tag.new.seat.me = c.load-tag.ensures.2 core
-        (subst (λ (q : Plan). core < q.cores) (sym plan) c.requires.core)
-        (c.tag_place-at.ensures.place
-        ∙ ap (λ (k : ℕ). place k core (tag_offset k (p - 1))) (sym slots)
-        ∙ place-from_zero me.0.slots core p me.0.finished current) in
+    (subst (λ (q : Plan). core < q.cores) (sym plan) c.requires.core)
+    (c.tag_place-at.ensures.place
+    ∙ ap (λ (k : ℕ). place k core (tag_offset k (p - 1))) (sym slots)
+    ∙ place-from_zero me.0.slots core p me.0.finished current) in
     let number = c.from-number.ensures in
     let not_row : n ≢ 4 * p + 1 = λ is. c.if-tag-number.false (omega arith) in
-    let seen = loaded.not_found (λ is. not_row (omega arith)) in
-    (n,
-    ap (λ (m : Mine). core_seen c.load-tag.new.seat.table_id m.0 c.pass.inside.core) seen
-    ∙ seen_after c.pass.inside.seat.table_id c.load-tag.new.seat.table_id me.0 c.pass.inside.core core p n c.load-tag.ensures.0 current
-    ∙ ap (λ (q : OfCore). looked q (Tag core p n)) c.pass.view_is,
-    elim c.if-tag-number-2.branch [
-      then-tag-number-2 w ↦
-          let tagged = w.if-tag-number-2.true in
-          subst (λ (l : Look). LookTells c.args.self.now.plan core p n l) (sym w.result-is)
-          (tells_lost c.args.self.now.plan me c.load-tag.new.seat.me core p n plan current loaded (omega arith))
-      | else-tag-number-2 w ↦
-          subst (λ (l : Look). LookTells c.args.self.now.plan core p n l) (sym w.result-is)
-          (tells_not_yet c.args.self.now.plan me c.load-tag.new.seat.me core p n current loaded not_row
-              (λ is. w.if-tag-number-2.false (omega arith)))
-    ])
+    let seen = loaded.not_found (λ is. not_row (omega arith)) in (
+      n,
+      ap (λ (m : Mine). core_seen c.load-tag.new.seat.table_id m.0 c.pass.inside.core) seen
+          ∙ seen_after c.pass.inside.seat.table_id c.load-tag.new.seat.table_id me.0 c.pass.inside.core core p n c.load-tag.ensures.0 current
+          ∙ ap (λ (q : OfCore). looked q (Tag core p n)) c.pass.view_is,
+      elim c.if-tag-number-2.branch [
+        | then-tag-number-2 w ↦
+            let tagged = w.if-tag-number-2.true in
+            subst (λ (l : Look). LookTells c.args.self.now.plan core p n l) (sym w.result-is)
+            (tells_lost c.args.self.now.plan me c.load-tag.new.seat.me core p n plan current loaded (omega arith))
+        | else-tag-number-2 w ↦
+            subst (λ (l : Look). LookTells c.args.self.now.plan core p n l) (sym w.result-is)
+            (tells_not_yet c.args.self.now.plan me c.load-tag.new.seat.me core p n current loaded not_row
+            (λ is. w.if-tag-number-2.false (omega arith)))
+      ],
+    )
 
 pub returns-after-tag-number-2-clause-lost_to_all : goal.returns-after-tag-number-2-clause-lost_to_all
 returns-after-tag-number-2-clause-lost_to_all c =
     let some : 1 ≤ c.args.self.now.plan.cores =
-        subst (λ (l : LogsOf). 1 ≤ l.plan.cores) c.self.view_is c.self.invariant.3.plan.a_core in
+    subst (λ (l : LogsOf). 1 ≤ l.plan.cores) c.self.view_is c.self.invariant.3.plan.a_core in
     lost_to_all c.args.self.now.plan c.args.p some (let current = c.requires.current in omega arith)

@@ -18,8 +18,8 @@ store-requires c =
       subst (λ (l : LogsOf). c.args.at + 1 + i < l.table.words) (sym c.self.view_is) within,
       subst
           (λ (l : LogsOf). Allows (Keeps l.plan l.slots) homes c.loop-i.seat.id c.loop-i.seat.me (c.args.at + 1 + i) (λ _. row_word c.args.row.now i)
-              (λ _. StoresWord (step homes (c.args.at + 1 + i) (row_word c.args.row.now i) 0 none) c.loop-i.seat.me (row_word c.args.row.now i)))
+          (λ _. StoresWord (step homes (c.args.at + 1 + i) (row_word c.args.row.now i) 0 none) c.loop-i.seat.me (row_word c.args.row.now i)))
           (sym c.self.view_is)
           (word_allowed c.args.self.now c.args.seat.now.table_id homes c.loop-i.seat.id c.args.seat.now.me c.loop-i.seat.me c.args.core c.args.p c.args.at i
-              c.args.row.now c.requires.may c.loop-i.invariant.stored few c.requires.entry c.requires.place),
+          c.args.row.now c.requires.may c.loop-i.invariant.stored few c.requires.entry c.requires.place),
     )

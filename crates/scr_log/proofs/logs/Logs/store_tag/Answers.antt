@@ -15,8 +15,8 @@ store-requires c =
       subst (λ (l : LogsOf). c.args.at < l.table.words) (sym c.self.view_is) within,
       subst
           (λ (l : LogsOf). Allows (Keeps l.plan l.slots) homes c.args.seat.now.id c.args.seat.now.me c.args.at (λ _. c.args.tag)
-              (λ _. StoresTag (step homes c.args.at c.args.tag 0 none) c.args.seat.now.me c.args.tag))
+          (λ _. StoresTag (step homes c.args.at c.args.tag 0 none) c.args.seat.now.me c.args.tag))
           (sym c.self.view_is)
           (tag_allowed c.args.self.now c.args.seat.now.table_id homes c.args.seat.now.id c.args.seat.now.me c.args.core c.args.p c.args.at c.args.tag
-              c.requires.may c.requires.whole c.requires.tag c.requires.place),
+          c.requires.may c.requires.whole c.requires.tag c.requires.place),
     )
