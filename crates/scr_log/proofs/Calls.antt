@@ -1,6 +1,6 @@
 -- The kinds of step as the calls make them: numbers of packets are counted from 1, and places are those of a call.
-use Rattle.std.proofs.Common.{◌≡◌, ◌≢◌, ℕ, ◌+◌, ◌-◌, ◌*◌, ◌%◌, ◌<◌, ◌≤◌, List, [], ◌∷◌, ◌++◌, length, get_or, set, sym, refl, ap, ◌∙◌, arith, subst, max, min, length-set, get_or-set_same, get_or-set_other, append_assoc, append-nil}
-use Rattle.std.specs.Prelude.{Option, Some, None, slice_index, slice_set}
+use Rattle.std.proofs.Common.{◌≡◌, ◌≢◌, ℕ, ◌+◌, ◌-◌, ◌<◌, ◌≤◌, List, [], ◌∷◌, ◌++◌, length, sym, refl, ap, ◌∙◌, arith, subst, max, min, get_or-set_same, get_or-set_other, append_assoc, append-nil}
+use Rattle.std.specs.Prelude.{Some, slice_index, slice_set}
 use mathlib.Core.Option.{none}
 use mathlib.Core.Logic.{dite}
 use native.Mathlib.Decide.{ℕ_discrete}
@@ -14,7 +14,7 @@ use Rattle.scr_log.specs.declared.view.Noted.TheVariants.{Finished}
 use Rattle.scr_log.specs.Layout.{tag_offset, data_offset, place}
 use Rattle.scr_log.specs.Entries.{entry, tag, tag_of, row_word}
 use Rattle.scr_log.specs.LogRule.{Keeps}
-use Rattle.scr_log.specs.Passes.{LogsOf, OfCore, noted_finished, IsFreeFor}
+use Rattle.scr_log.specs.Passes.{LogsOf, OfCore, noted_finished}
 use Rattle.scr_log.specs.Seats.{MayPublish}
 use Rattle.scr_log.specs.Steps.{Mine, StoresWord, StoresTag}
 use Rattle.scr_log.specs.declared.room.Room.TheVariants.{NoRoom}

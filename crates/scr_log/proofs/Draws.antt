@@ -1,27 +1,25 @@
 -- The rule at the start, and the kinds of step that aren't a core's own: a split, a draw, and the halt word being set.
-use Rattle.std.proofs.Common.{◌≡◌, ◌≢◌, ℕ, zero, suc, ◌+◌, ◌-◌, ◌%◌, ◌^◌, ◌<◌, ◌≤◌, ◌⊎◌, inl, inr, ⊎_elim, List, [], ◌∷◌, ◌++◌, All, length, get_or, set, sym, refl, ap, ◌∙◌, arith, subst, eqb, eq-eqb, ne_eqb, cond, length-set, get_or-set_same, get_or-set_other, replicate}
-use Rattle.std.specs.Prelude.{Option, Some, None, slice_index, slice_set, ◌==◌, if◌then◌else◌, bit_or}
+use Rattle.std.proofs.Common.{◌≡◌, ◌≢◌, ℕ, zero, suc, ◌+◌, ◌%◌, ◌^◌, ◌<◌, ◌≤◌, inl, inr, ⊎_elim, List, [], ◌∷◌, ◌++◌, length, set, sym, refl, ap, ◌∙◌, arith, subst, eq-eqb, ne_eqb, cond, length-set, get_or-set_same, get_or-set_other, replicate}
+use Rattle.std.specs.Prelude.{Some, None, slice_index, slice_set, ◌==◌, if◌then◌else◌, bit_or}
 use Rattle.std.proofs.lemmas.List.{get_or-replicate, length-replicate}
 use Rattle.std.proofs.lemmas.List.Elements.{All-push, All-nil}
 use mathlib.Core.Option.{some, none, some-injective, some-ne-none}
 use mathlib.Core.Logic.{dite}
 use native.Mathlib.Decide.{ℕ_discrete, dec_lt}
 use lib.ListN.{get_elem?}
-use Rattle.atomic_table.specs.Table.{State, Me, step, keeps, stepped, Allows, Splits, opening}
+use Rattle.atomic_table.specs.Table.{step, keeps, Allows, Splits}
 use Rattle.atomic_table.proofs.Lists.{at_set, at_snoc, at_longer, set_here, set_else}
 use Rattle.scr_plan.specs.Plan.{Plan}
 use Rattle.scr_log.specs.declared.view.PassView.{PassView}
-use Rattle.scr_log.specs.declared.view.Found.{Found}
-use Rattle.scr_log.specs.declared.view.Noted.{Noted}
-use Rattle.scr_log.specs.declared.view.Noted.TheVariants.{Tag, Finished, Halt, Drawn}
+use Rattle.scr_log.specs.declared.view.Noted.TheVariants.{Drawn}
 use Rattle.scr_log.specs.Layout.{core_size, word_count, place, claim_place, halt_place}
-use Rattle.scr_log.specs.Progress.{Progress, fresh, progress_of, IsCleared}
+use Rattle.scr_log.specs.Progress.{Progress, fresh, progress_of}
 use Rattle.scr_log.specs.Passes.{free_view, all_draws}
-use Rattle.scr_log.specs.LogRule.{IsLog, IsCorePass, WasThere, IsPass, IsNobodys, IsUntouched, total_stock, HaltIs, LogRule, Keeps, core_words}
+use Rattle.scr_log.specs.LogRule.{IsCorePass, WasThere, IsPass, IsNobodys, total_stock, HaltIs, LogRule, Keeps, core_words}
 use Rattle.scr_log.specs.Steps.{Mine, Draws, with_core, too_late, handed, new_pass, SetsHalt}
 use Rattle.scr_log.proofs.OneLog.{same_log, fresh_log}
-use Rattle.scr_log.proofs.Rules.{Later, Goes, goes, total-set, total-kept, halt_kept, pass_stays, looks_stay, there-below}
-use Rattle.scr_log.proofs.Loads.{core_pass_with, pass_with}
+use Rattle.scr_log.proofs.Rules.{Later, goes, total-set, total-kept, halt_kept, pass_stays, looks_stay, there-below}
+use Rattle.scr_log.proofs.Loads.{core_pass_with}
 use Rattle.scr_log.proofs.Apart as at
 
 -- a free pass that has seen nothing

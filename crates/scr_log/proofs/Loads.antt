@@ -1,5 +1,5 @@
 -- The four kinds of load keep the log rule, and what they tell.
-use Rattle.std.proofs.Common.{◌≡◌, ◌≢◌, ℕ, zero, suc, ◌+◌, ◌-◌, ◌*◌, ◌/◌, ◌%◌, ◌^◌, ◌<◌, ◌≤◌, ◌⊎◌, inl, inr, ⊎_elim, List, [], ◌∷◌, ◌++◌, All, length, get_or, set, sym, refl, ap, ◌∙◌, arith, subst, length-set, get_or-set_same, get_or-set_other, max}
+use Rattle.std.proofs.Common.{◌≡◌, ◌≢◌, ℕ, ◌+◌, ◌-◌, ◌*◌, ◌%◌, ◌<◌, ◌≤◌, ◌⊎◌, inl, inr, ⊎_elim, List, [], ◌∷◌, ◌++◌, length, set, sym, refl, ap, ◌∙◌, arith, subst, length-set, get_or-set_same, get_or-set_other, max}
 use Rattle.std.specs.Prelude.{Option, Some, None, slice_index, slice_set}
 use Rattle.std.proofs.lemmas.List.{set-get_or}
 use Rattle.std.proofs.lemmas.List.Elements.{All-push}
@@ -7,19 +7,19 @@ use mathlib.Core.Option.{some, none}
 use mathlib.Core.Logic.{dite}
 use native.Mathlib.Decide.{ℕ_discrete, dec_lt}
 use lib.ListN.{get_elem?}
-use Rattle.atomic_table.specs.Table.{State, Me, step, keeps, stepped, Allows}
+use Rattle.atomic_table.specs.Table.{step, keeps, Allows}
 use Rattle.scr_base.specs.declared.row.Row.{Row}
 use Rattle.scr_plan.specs.Plan.{Plan}
 use Rattle.scr_log.specs.declared.view.PassView.{PassView}
 use Rattle.scr_log.specs.declared.view.Found.{Found}
 use Rattle.scr_log.specs.declared.view.Noted.{Noted}
-use Rattle.scr_log.specs.declared.view.Noted.TheVariants.{Tag, Finished, Halt, Drawn}
-use Rattle.scr_log.specs.Layout.{core_size, word_count, tag_offset, data_offset, finished_offset, place, claim_place, halt_place}
+use Rattle.scr_log.specs.declared.view.Noted.TheVariants.{Tag, Finished, Halt}
+use Rattle.scr_log.specs.Layout.{tag_offset, data_offset, finished_offset, place, halt_place}
 use Rattle.scr_log.specs.Entries.{row_tag, lost_tag, tag_number, tag_of, entry, tag, row_word}
-use Rattle.scr_log.specs.Progress.{Progress, progress_of, IsCleared}
-use Rattle.scr_log.specs.LogRule.{IsLog, IsFound, IsCorePass, WasThere, IsPass, total_stock, HaltIs, LogRule, Keeps, core_words, HasRow}
+use Rattle.scr_log.specs.Progress.{Progress, progress_of}
+use Rattle.scr_log.specs.LogRule.{IsLog, IsFound, IsCorePass, WasThere, IsPass, LogRule, Keeps, core_words, HasRow}
 use Rattle.scr_log.specs.Steps.{Mine, LoadsTag, LoadsTagOf, TellsTag, tag_seen, row_found, LoadsWord, LoadsLastWord, IsWordFound, LoadsFinished, finished_seen, LoadsHalt}
-use Rattle.scr_log.proofs.Rules.{Later, Goes, goes, total-kept, halt_kept}
+use Rattle.scr_log.proofs.Rules.{goes, total-kept, halt_kept}
 use Rattle.scr_log.proofs.Apart as at
 
 module _ (plan : Plan) (slots : ℕ) (words : List ℕ) (progress : ℕ → Progress) (owner : ℕ → ℕ) (id : ℕ) (v : PassView) where

@@ -1,22 +1,21 @@
 -- What the loads of a look tell, with numbers of packets counted from 1.
-use Rattle.std.proofs.Common.{◌≡◌, ◌≢◌, ℕ, ◌+◌, ◌-◌, ◌*◌, ◌<◌, ◌≤◌, List, [], ◌∷◌, ◌++◌, sym, refl, ap, ◌∙◌, arith, subst}
-use Rattle.std.specs.Prelude.{Option, Some, None}
+use Rattle.std.proofs.Common.{◌≡◌, ◌≢◌, ℕ, ◌+◌, ◌-◌, ◌*◌, ◌<◌, sym, refl, ap, ◌∙◌, arith, subst}
+use Rattle.std.specs.Prelude.{Some, None}
 use Rattle.atomic_table.specs.Seated.{TableId}
 use Rattle.scr_base.specs.declared.row.Row as rows
 use Rattle.scr_plan.specs.Plan.{Plan}
 use Rattle.scr_plan.specs.FinalEntry.{final_entry}
 use Rattle.scr_log.specs.declared.view.PassView.{PassView}
 use Rattle.scr_log.specs.declared.view.Found.{Found}
-use Rattle.scr_log.specs.declared.view.Noted.{Noted}
 use Rattle.scr_log.specs.declared.view.Noted.TheVariants.{Tag}
 use Rattle.scr_log.specs.declared.look.Look.TheVariants.{Row, Lost, NotYet}
 use Rattle.scr_log.specs.Layout.{place, tag_offset, data_offset}
-use Rattle.scr_log.specs.Entries.{entry, row_tag, lost_tag, row_word}
-use Rattle.scr_log.specs.Passes.{LogsOf, OfCore, looked}
+use Rattle.scr_log.specs.Entries.{entry, row_word}
+use Rattle.scr_log.specs.Passes.{LogsOf, looked}
 use Rattle.scr_log.specs.Seats.{core_seen, IsReading}
-use Rattle.scr_log.specs.Steps.{Mine, AStep, LoadsTagOf, tag_seen, row_found, IsWordFound}
+use Rattle.scr_log.specs.Steps.{Mine, AStep, LoadsTagOf, tag_seen, IsWordFound}
 use Rattle.scr_log.specs.Answers.{LookTells}
-use Rattle.scr_log.proofs.Calls.{final_entry-from_zero, place-from_zero, data_place}
+use Rattle.scr_log.proofs.Calls.{final_entry-from_zero, data_place}
 use Rattle.scr_log.proofs.LostToAll.{row_of_final}
 
 -- a word of the row that was found

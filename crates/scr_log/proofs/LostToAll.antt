@@ -1,12 +1,11 @@
 -- A packet that is lost to all cores was carried by no delivered frame.
-use Rattle.std.proofs.Common.{◌≡◌, ◌≢◌, ℕ, ◌+◌, ◌-◌, ◌%◌, ◌<◌, ◌≤◌, ◌⊎◌, ⊎_elim, Bool, true, false, length, sym, refl, ap, ◌∙◌, arith}
+use Rattle.std.proofs.Common.{◌≡◌, ◌≢◌, ℕ, ◌-◌, ◌<◌, ◌≤◌, ⊎_elim, Bool, true, false, length, sym, refl, ap, ◌∙◌, arith}
 use Rattle.std.specs.Prelude.{Option, Some, None, if◌then◌else◌}
 use Rattle.std.specs.List.{slice_get}
 use Rattle.std.proofs.lemmas.Option.{slice_get_cases}
 use Rattle.std.proofs.lemmas.Bool.{false_from_ne_true}
 use Rattle.scr_base.specs.declared.row.Row.{Row}
 use Rattle.scr_plan.specs.Delivered.{core_number}
-use Rattle.scr_plan.specs.Kept.{IsKept}
 use Rattle.scr_plan.specs.Plan.{Plan, frame_count, row_of, carries_to, keeps}
 use Rattle.scr_plan.specs.FinalEntry.{final_entry}
 use Rattle.scr_plan.proofs.Packets.{Decides-kept, Decides-carried}

@@ -1,14 +1,14 @@
 -- What the stores of a core do to its log.
-use Rattle.std.proofs.Common.{◌≡◌, ◌≢◌, ℕ, ◌+◌, ◌%◌, ◌<◌, ◌≤◌, ◌⊎◌, inl, inr, ⊎_elim, sym, refl, ap, ◌∙◌, arith, subst}
-use Rattle.std.specs.Prelude.{Option, Some, None}
+use Rattle.std.proofs.Common.{◌≡◌, ◌≢◌, ℕ, ◌+◌, ◌%◌, ◌<◌, ◌≤◌, inl, inr, ⊎_elim, sym, ap, ◌∙◌, arith, subst}
+use Rattle.std.specs.Prelude.{Some}
 use mathlib.Core.Logic.{dite}
-use native.Mathlib.Decide.{dec_lt, ℕ_discrete}
+use native.Mathlib.Decide.{ℕ_discrete}
 use Rattle.scr_base.specs.declared.row.Row.{Row}
 use Rattle.scr_plan.specs.Plan.{Plan, frame_count}
 use Rattle.scr_log.specs.Layout.{core_size, tag_offset, data_offset, finished_offset}
 use Rattle.scr_log.specs.Entries.{entry, tag, row_word}
 use Rattle.scr_log.specs.Progress.{Progress, fresh}
-use Rattle.scr_log.specs.LogRule.{IsLog, MayWrite, HasRow}
+use Rattle.scr_log.specs.LogRule.{IsLog, MayWrite}
 use Rattle.scr_log.proofs.Apart as at
 
 -- one word of a core was changed

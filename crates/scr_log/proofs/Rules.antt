@@ -1,5 +1,5 @@
 -- What of the rule a step has to show anew. All else of it follows from what stayed the same or only grew.
-use Rattle.std.proofs.Common.{◌≡◌, ◌≢◌, ℕ, zero, suc, ◌+◌, ◌^◌, ◌<◌, ◌≤◌, ◌⊎◌, inl, inr, ⊎_elim, List, [], ◌∷◌, ◌++◌, All, length, get_or, set, sym, refl, ap, ◌∙◌, arith, subst, eqb, eq-eqb, ne_eqb, length-set, get_or-set_same, get_or-set_other}
+use Rattle.std.proofs.Common.{◌≡◌, ◌≢◌, ℕ, zero, suc, ◌+◌, ◌^◌, ◌<◌, ◌≤◌, inl, inr, ⊎_elim, List, [], ◌∷◌, All, length, set, sym, ap, ◌∙◌, arith, subst}
 use Rattle.std.specs.Prelude.{Option, Some, None, slice_index}
 use mathlib.Core.Option.{some, some-injective, some-ne-none}
 use mathlib.Core.Logic.{dite}
@@ -11,11 +11,10 @@ use Rattle.scr_log.specs.declared.view.PassView.{PassView}
 use Rattle.scr_log.specs.declared.view.Found.{Found}
 use Rattle.scr_log.specs.declared.view.Noted.{Noted}
 use Rattle.scr_log.specs.declared.view.Noted.TheVariants.{Tag, Finished, Halt, Drawn}
-use Rattle.scr_log.specs.Layout.{core_size, word_count, place, claim_place, halt_place}
-use Rattle.scr_log.specs.Progress.{Progress, fresh, progress_of, updated, IsCleared}
-use Rattle.scr_log.specs.LogRule.{IsLog, IsFound, IsCorePass, WasThere, IsPass, IsNobodys, IsUntouched, total_stock, HaltIs, LogRule, core_words}
+use Rattle.scr_log.specs.Layout.{core_size, claim_place, halt_place}
+use Rattle.scr_log.specs.Progress.{Progress, IsCleared}
+use Rattle.scr_log.specs.LogRule.{IsLog, IsFound, WasThere, IsPass, IsNobodys, total_stock, HaltIs, LogRule, core_words}
 use Rattle.scr_log.proofs.OneLog.{same_log}
-use Rattle.scr_log.proofs.Apart as at
 
 -- whether a pass has this core
 pub core_is : (o : Option ℕ) (core : ℕ) → Dec (o ≡ Some core)

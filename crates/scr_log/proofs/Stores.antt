@@ -1,22 +1,21 @@
 -- The three kinds of store keep the log rule.
-use Rattle.std.proofs.Common.{◌≡◌, ◌≢◌, ℕ, zero, suc, ◌+◌, ◌%◌, ◌^◌, ◌<◌, ◌≤◌, ◌⊎◌, inl, inr, ⊎_elim, List, [], ◌∷◌, ◌++◌, length, get_or, set, sym, refl, ap, ◌∙◌, arith, subst, eqb, eq-eqb, ne_eqb, cond, length-set, get_or-set_same, get_or-set_other}
-use Rattle.std.specs.Prelude.{Option, Some, None, slice_index, slice_set}
+use Rattle.std.proofs.Common.{◌≡◌, ◌≢◌, ℕ, ◌+◌, ◌<◌, ◌≤◌, List, set, sym, refl, ap, ◌∙◌, arith, subst, eq-eqb, ne_eqb, cond, length-set, get_or-set_same, get_or-set_other}
+use Rattle.std.specs.Prelude.{Some, None, slice_index, slice_set}
 use mathlib.Core.Option.{some, none}
 use mathlib.Core.Logic.{dite}
 use native.Mathlib.Decide.{ℕ_discrete}
 use lib.ListN.{get_elem?}
-use Rattle.atomic_table.specs.Table.{State, Me, step, keeps, stepped, Allows}
+use Rattle.atomic_table.specs.Table.{step, keeps, Allows}
 use Rattle.scr_base.specs.declared.row.Row.{Row}
 use Rattle.scr_plan.specs.Plan.{Plan, frame_count}
 use Rattle.scr_log.specs.declared.view.PassView.{PassView}
-use Rattle.scr_log.specs.declared.view.Found.{Found}
-use Rattle.scr_log.specs.Layout.{core_size, word_count, tag_offset, data_offset, finished_offset, place, claim_place, halt_place}
+use Rattle.scr_log.specs.Layout.{core_size, tag_offset, data_offset, finished_offset, place, claim_place, halt_place}
 use Rattle.scr_log.specs.Entries.{entry, tag, row_word}
 use Rattle.scr_log.specs.Progress.{Progress, progress_of, updated, IsCleared}
-use Rattle.scr_log.specs.LogRule.{IsLog, MayWrite, IsFound, IsCorePass, WasThere, IsPass, total_stock, HaltIs, LogRule, Keeps, core_words, HasRow}
+use Rattle.scr_log.specs.LogRule.{IsLog, MayWrite, IsCorePass, IsPass, HaltIs, LogRule, Keeps, core_words}
 use Rattle.scr_log.specs.Steps.{Mine, StoresWord, StoresTag, StoresFinished}
 use Rattle.scr_log.proofs.OneLog.{IsChangedAt, data_stored, tag_stored, finished_stored}
-use Rattle.scr_log.proofs.Rules.{Later, Goes, goes, total-kept, halt_kept, looks_stay}
+use Rattle.scr_log.proofs.Rules.{Later, goes, total-kept, halt_kept, looks_stay}
 use Rattle.scr_log.proofs.Apart as at
 
 -- the progress of all cores after that of one has changed

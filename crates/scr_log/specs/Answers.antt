@@ -1,10 +1,9 @@
 -- What the answers of `room` and `look` tell.
 use Rattle.std.specs.Prelude.{◌≡◌, ◌≢◌, ℕ, ◌+◌, ◌<◌, ◌≤◌, List, [], ◌∷◌, ◌++◌, Some, None, slice_index}
-use Rattle.scr_base.specs.declared.row.Row as rows
 use Rattle.scr_plan.specs.Plan.{Plan, row_of}
 use Rattle.scr_plan.specs.FinalEntry.{final_entry}
 use Rattle.scr_log.specs.declared.view.Noted.{Noted}
-use Rattle.scr_log.specs.declared.view.Noted.TheVariants.{Tag, Finished}
+use Rattle.scr_log.specs.declared.view.Noted.TheVariants.{Finished}
 use Rattle.scr_log.specs.declared.room.Room.{Room}
 use Rattle.scr_log.specs.declared.room.Room.TheVariants.{Free, NoRoom}
 use Rattle.scr_log.specs.declared.look.Look.{Look}

@@ -1,10 +1,10 @@
 -- What contracts see of the logs and of a pass, and what the log rule sees of a pass between two calls.
-use Rattle.std.specs.Prelude.{◌≡◌, ◌≢◌, ℕ, ◌+◌, ◌-◌, ◌^◌, ◌<◌, ◌≤◌, List, [], ◌∷◌, ◌++◌, Option, Some, None, length, replicate, slice_index, slice_set, max}
+use Rattle.std.specs.Prelude.{◌≡◌, ◌≢◌, ℕ, ◌+◌, ◌-◌, ◌^◌, ◌<◌, ◌≤◌, List, [], ◌∷◌, ◌++◌, None, replicate, slice_index, slice_set, max}
 use Rattle.atomic_table.specs.Seated.{TableId}
-use Rattle.scr_plan.specs.Plan.{Plan, IsPlan, frame_count}
+use Rattle.scr_plan.specs.Plan.{Plan, IsPlan}
 use Rattle.scr_log.specs.declared.view.PassView.{PassView}
 use Rattle.scr_log.specs.declared.view.Noted.{Noted}
-use Rattle.scr_log.specs.declared.view.Noted.TheVariants.{Tag, Finished, Halt, Drawn}
+use Rattle.scr_log.specs.declared.view.Noted.TheVariants.{Finished, Drawn}
 use Rattle.scr_log.specs.Layout.{word_count}
 
 -- the logs: their plan, the slots of each core, and which table they are, with the count of its words

@@ -1,6 +1,6 @@
 -- How far a core has come: up to which number it has published, how many words of the next row it has stored in its log,
 -- and up to which number it has finished.
-use Rattle.std.specs.Prelude.{◌≡◌, ◌≢◌, ℕ, ◌+◌, ◌<◌, ◌≤◌, ◌==◌, if◌then◌else◌}
+use Rattle.std.specs.Prelude.{ℕ, ◌+◌, ◌<◌, ◌≤◌, ◌==◌, if◌then◌else◌}
 use Rattle.scr_log.specs.declared.view.PassView.{PassView}
 
 pub record Progress : Type 0 where

@@ -1,12 +1,9 @@
 -- What each of the ten kinds of step does to the view of the pass that makes it, and what it tells.
-use Rattle.std.specs.Prelude.{◌≡◌, ◌≢◌, ℕ, ◌+◌, ◌-◌, ◌*◌, ◌/◌, ◌<◌, ◌≤◌, List, [], ◌∷◌, ◌++◌, max, replicate, Option, Some, None, slice_index, slice_set}
+use Rattle.std.specs.Prelude.{◌≡◌, ◌≢◌, ℕ, ◌+◌, ◌-◌, ◌<◌, ◌≤◌, [], ◌∷◌, ◌++◌, max, replicate, Some, None, slice_index, slice_set}
 use Rattle.atomic_table.specs.Table.{Me, Step}
 use Rattle.scr_base.specs.declared.row.Row.{Row}
-use Rattle.scr_plan.specs.Plan.{Plan}
-use Rattle.scr_plan.specs.FinalEntry.{final_entry}
 use Rattle.scr_log.specs.declared.view.PassView.{PassView}
 use Rattle.scr_log.specs.declared.view.Found.{Found}
-use Rattle.scr_log.specs.declared.view.Noted.{Noted}
 use Rattle.scr_log.specs.declared.view.Noted.TheVariants.{Tag, Finished, Halt, Drawn}
 use Rattle.scr_log.specs.Layout.{tag_offset, data_offset, finished_offset, place}
 use Rattle.scr_log.specs.Entries.{row_tag, lost_tag, tag_number, row_word, entry}

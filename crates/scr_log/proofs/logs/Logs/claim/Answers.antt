@@ -1,5 +1,4 @@
-use Rattle.std.proofs.Common.{◌≡◌, ℕ, ◌<◌, ◌≤◌, ap, sym, ◌∙◌, subst, arith, List}
-use Rattle.scr_log.specs.declared.view.PassView.{PassView}
+use Rattle.std.proofs.Common.{◌≡◌, ◌<◌, ap, sym, ◌∙◌, subst, arith}
 use Rattle.scr_log.specs.Layout.{claim_place}
 use Rattle.scr_log.specs.Progress.{progress_of}
 use Rattle.scr_log.specs.Passes.{LogsOf, Free}

@@ -1,4 +1,4 @@
-use Rattle.std.proofs.Common.{◌≡◌, ℕ, ◌+◌, ◌*◌, ap, ◌∙◌}
+use Rattle.std.proofs.Common.{ℕ, ◌+◌, ◌*◌, ap, ◌∙◌}
 use Rattle.scr_log.specs.Layout.{claim_place}
 use Rattle.scr_log.specs.Passes.{LogsOf}
 use Rattle.scr_log.proofs.logs.Logs.claim_place.Goals as goal

@@ -1,4 +1,4 @@
-use Rattle.std.proofs.Common.{◌≡◌, ◌<◌, ℕ, ap, sym, ◌∙◌, subst, arith}
+use Rattle.std.proofs.Common.{◌≡◌, ◌<◌, ap, sym, ◌∙◌, subst, arith}
 use Rattle.scr_log.specs.Layout.{place, finished_offset}
 use Rattle.scr_log.specs.Passes.{LogsOf, OfCore}
 use Rattle.scr_log.proofs.Stores.{stores_finished}

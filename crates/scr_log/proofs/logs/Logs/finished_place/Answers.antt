@@ -1,4 +1,4 @@
-use Rattle.std.proofs.Common.{◌≡◌, ℕ, ◌+◌, ◌*◌, ap, ◌∙◌}
+use Rattle.std.proofs.Common.{ℕ, ◌+◌, ◌*◌, ap, ◌∙◌}
 use Rattle.scr_log.specs.Layout.{place, finished_offset}
 use Rattle.scr_log.specs.Passes.{LogsOf}
 use Rattle.scr_log.proofs.logs.Logs.finished_place.Goals as goal

@@ -1,7 +1,6 @@
-use Rattle.std.proofs.Common.{◌≡◌, ℕ, ◌<◌, ap, sym, ◌∙◌, subst}
+use Rattle.std.proofs.Common.{◌<◌, ap, sym, ◌∙◌, subst}
 use Rattle.scr_log.specs.Layout.{halt_place}
 use Rattle.scr_log.specs.Passes.{LogsOf, OfCore}
-use Rattle.scr_log.specs.Seats.{logs_of}
 use Rattle.scr_log.proofs.Draws.{sets_halt}
 use Rattle.scr_log.proofs.logs.Logs.halt.Goals as goal
 

@@ -1,4 +1,4 @@
-use Rattle.std.proofs.Common.{◌≡◌, ℕ, ◌<◌, ap, sym, ◌∙◌, subst}
+use Rattle.std.proofs.Common.{◌<◌, ap, sym, ◌∙◌, subst}
 use Rattle.scr_log.specs.Layout.{halt_place}
 use Rattle.scr_log.specs.Passes.{LogsOf, OfCore}
 use Rattle.scr_log.proofs.Loads.{loads_halt}

@@ -1,5 +1,4 @@
-use Rattle.std.proofs.Common.{◌≡◌, ◌≢◌, ◌<◌, ◌≤◌, ℕ, ◌+◌, ◌-◌, ◌*◌, ap, sym, refl, ◌∙◌, subst, arith}
-use Rattle.atomic_table.specs.Seated.{TableId}
+use Rattle.std.proofs.Common.{◌≡◌, ◌≢◌, ◌<◌, ◌≤◌, ℕ, ◌+◌, ◌-◌, ◌*◌, ap, sym, ◌∙◌, subst, arith}
 use Rattle.scr_plan.specs.Plan.{Plan}
 use Rattle.scr_log.specs.declared.look.Look.{Look}
 use Rattle.scr_log.specs.declared.view.Noted.TheVariants.{Tag}
@@ -11,7 +10,7 @@ use Rattle.scr_log.specs.Answers.{LookTells}
 use Rattle.scr_log.proofs.Loads.{loads_tag}
 use Rattle.scr_log.proofs.Calls.{place-from_zero}
 use Rattle.scr_log.proofs.LostToAll.{lost_to_all}
-use Rattle.scr_log.proofs.Looking.{reads, seen_after, tells_lost, tells_not_yet, tells_row}
+use Rattle.scr_log.proofs.Looking.{reads, seen_after, tells_lost, tells_not_yet}
 use Rattle.scr_log.proofs.logs.Logs.look.Goals as goal
 use Rattle.scr_log.proofs.logs.Logs.look.Goals.{then-tag-number-2, else-tag-number-2}
 

@@ -1,4 +1,4 @@
-use Rattle.std.proofs.Common.{◌≡◌, ℕ, List, replicate, ap, sym, ◌∙◌}
+use Rattle.std.proofs.Common.{◌≡◌, ℕ, replicate, ap, sym, ◌∙◌}
 use Rattle.scr_plan.specs.Plan.{Plan}
 use Rattle.scr_log.specs.Layout.{word_count}
 use Rattle.scr_log.proofs.Draws.{opens}

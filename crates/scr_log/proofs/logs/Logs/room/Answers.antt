@@ -1,5 +1,4 @@
-use Rattle.std.proofs.Common.{◌≡◌, ◌≢◌, ◌<◌, ◌≤◌, ℕ, ◌+◌, ◌-◌, ap, sym, ◌∙◌, subst, arith, length, min, Some, None, Option}
-use Rattle.scr_plan.specs.Plan.{Plan}
+use Rattle.std.proofs.Common.{◌≡◌, ℕ, ◌+◌, ◌-◌, ap, sym, ◌∙◌, subst, arith, Some, None}
 use Rattle.scr_log.specs.declared.room.Room.TheVariants.{NoRoom}
 use Rattle.scr_log.specs.Passes.{LogsOf, OfCore, noted_finished}
 use Rattle.scr_log.specs.Answers.{HasLoaded, RoomTells}

@@ -1,4 +1,4 @@
-use Rattle.std.proofs.Common.{◌≡◌, ℕ, ◌<◌, ◌≤◌, ap, sym, ◌∙◌, subst, arith}
+use Rattle.std.proofs.Common.{◌≡◌, ap, sym, ◌∙◌, arith}
 use Rattle.scr_log.specs.Passes.{LogsOf, Free}
 use Rattle.scr_log.proofs.Draws.{splits}
 use Rattle.scr_log.proofs.pass.FreePass.split.Goals as goal
