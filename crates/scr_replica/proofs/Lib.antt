@@ -8,3 +8,5 @@ pub mod Taking
 pub mod InOrder
 pub mod OneCoreOfAll
 pub mod Deciding
+pub mod Undivided
+pub mod Counted
