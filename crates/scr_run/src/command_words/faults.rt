@@ -1,4 +1,4 @@
-ghost use Rattle.std.specs.Prelude.{◌≡◌, ◌+◌, ◌<◌, length, take, OnOk, IfErr};
+ghost use Rattle.std.specs.Prelude.{◌≡◌, ◌<◌, length, OnOk, IfErr};
 ghost use Rattle.scr_run.specs.Operands.{IsOrdered};
 ghost use Rattle.scr_run.specs.WordFaults.{value_fault, operand_fault, AreFaultless};
 ghost use Rattle.scr_run.specs.WordTests.{Tells, IsFirstFaultBy};
