@@ -28,6 +28,7 @@
 #![tactic(auto)]
 
 mod answer;
+mod command_words;
 mod fault_line;
 mod report;
 mod status;
@@ -36,6 +37,7 @@ mod tests;
 mod top;
 mod words;
 
+pub use command_words::{Command, ProgramSettings, RunSettings, Shape, WordsError, read_words};
 pub use fault_line::write_fault_line;
 pub use status::{Status, WordCause, WordFault};
 pub use top::scr_main;
