@@ -1,12 +1,10 @@
 -- The answers of the whole program, by its words: which capture it takes, which report it writes, and how it ends.
-use Rattle.std.specs.Prelude.{◌≡◌, ◌⊎◌, ℕ, Bool, false, List, [], ◌∷◌, Option, Some, Ok}
-use Rattle.std.specs.Io.KnownBytes.{Appends}
+use Rattle.std.specs.Prelude.{◌≡◌, ◌⊎◌, ⊤, ℕ, Bool, false, List, [], ◌∷◌, Option, Some, Ok}
+use Rattle.std.specs.Io.KnownBytes.{IsAtEnd}
 use Rattle.std.specs.Option.{option_map_or}
 use Rattle.scr_base.specs.Causes.{Rose}
-use Rattle.scr_base.specs.Streams.{AppendsPrefix}
 use Rattle.scr_pcap.specs.Generated.{generated}
 use Rattle.scr_pcap.specs.Records.{Record}
-use Rattle.scr_pcap.specs.Reading.{IsReading}
 use Rattle.scr_run.specs.declared.status.Status.{Status}
 use Rattle.scr_run.specs.declared.status.Status.TheVariants.{Done, Words, Capture, ReadFault, WriteFault, OutOfMemory, TooMany}
 use Rattle.scr_run.specs.declared.command_words.settings.Command.{Command}
@@ -17,7 +15,7 @@ use Rattle.scr_run.specs.WordFaults.{AreRefused}
 use Rattle.scr_run.specs.GivenSettings.{AreAccepted}
 use Rattle.scr_run.specs.Rules.{rules_of}
 use Rattle.scr_run.specs.RunReport.{text_by}
-use Rattle.scr_run.specs.Ends.{Ends, WritesReport, WritesFront}
+use Rattle.scr_run.specs.Ends.{Ends, StopsReading, WritesReport, WritesFront}
 
 -- the first word asks for a capture that is made up, so that none is read
 abbrev pub asks_for_load : List (List ℕ) → Bool
@@ -66,3 +64,24 @@ module _ (text : List Record → List ℕ) (made : List ℕ) {S O : Type 0} (lef
   EndsBy Run old new out_old out_new status = Ends text left faults written write_faults old new out_old out_new status
   EndsBy Plain old new out_old out_new status = Ends text left faults written write_faults old new out_old out_new status
   EndsBy Load old new out_old out_new status = LoadEnds text made written write_faults out_old out_new status × (new ≡ old)
+
+-- the answer speaks of no capture
+abbrev pub IsOfNoCapture : Status → Type 0
+IsOfNoCapture (Capture error) = ⊥
+IsOfNoCapture (TooMany limit) = ⊥
+IsOfNoCapture ReadFault = ⊥
+IsOfNoCapture Done = ⊤
+IsOfNoCapture (Words fault) = ⊤
+IsOfNoCapture WriteFault = ⊤
+IsOfNoCapture OutOfMemory = ⊤
+
+-- how the whole program ended
+module _ (words : List (List ℕ)) {S O : Type 0} (left : S → Option (List ℕ)) (faults : S → ℕ) (written : O → Option (List ℕ)) (write_faults : O → ℕ) where
+  abbrev pub MainEnds : (old new : S) (out_old out_new : O) → Status → Type 0
+  MainEnds old new out_old out_new (Words fault) = AreRefused words fault × (new ≡ old) × (out_new ≡ out_old)
+  MainEnds old new out_old out_new OutOfMemory = (out_new ≡ out_old) ⊎ HasBegun words (left old) (written out_old) (written out_new)
+  MainEnds old new out_old out_new Done = HasWritten words (left old) (written out_old) (written out_new) × (asks_for_load words ≡ false → IsAtEnd (left new))
+  MainEnds old new out_old out_new WriteFault = Rose (write_faults out_old) (write_faults out_new) × HasBegun words (left old) (written out_old) (written out_new)
+  MainEnds old new out_old out_new (Capture error) = StopsReading (left old) (faults old) (faults new) (Capture error) × (out_new ≡ out_old) × (asks_for_load words ≡ false)
+  MainEnds old new out_old out_new (TooMany limit) = StopsReading (left old) (faults old) (faults new) (TooMany limit) × (out_new ≡ out_old) × (asks_for_load words ≡ false)
+  MainEnds old new out_old out_new ReadFault = StopsReading (left old) (faults old) (faults new) ReadFault × (out_new ≡ out_old) × (asks_for_load words ≡ false)

@@ -1,6 +1,7 @@
-ghost use Rattle.std.specs.Prelude.{◌≡◌, ◌≤◌, ◌⊎◌, ⊥, ℕ, List, length, Some, Ok, Err, IfOk, IfErr, IfSome, OnOk};
+ghost use Rattle.std.specs.Prelude.{◌≡◌, ◌≤◌, ◌⊎◌, ⊥, ◌++◌, ◌∷◌, [], ℕ, List, length, Some, Ok, Err, IfOk, IfErr, IfSome, OnOk};
 ghost use Rattle.std.specs.Io.KnownBytes.{IsAtEnd};
 ghost use Rattle.scr_base.specs.Causes.{Rose};
+ghost use Rattle.scr_frame.specs.Fields.{fields};
 ghost use Rattle.scr_pcap.specs.Records.{Record};
 ghost use Rattle.scr_pcap.specs.Reading.{IsReading};
 ghost use Rattle.scr_pcap.specs.declared.error.CaptureError.{CaptureError};
@@ -108,7 +109,21 @@ fn rows_read<P: Program, S: Source>(
     let mut reader = Reader::begin(capture)?;
     let mut rows = Vec::new(alloc);
     while let Some(info) = reader.next(capture, &mut frame)? {
-        rows.push(P::extract(settings, &parse(frame.bytes()), info.time))?;
+        put_row::<P>(&mut rows, settings, frame.bytes(), info.time)?;
     }
     Ok(rows)
+}
+
+// Puts the row of the next frame behind the others.
+fn put_row<P: Program>(
+    rows: &mut Vec<Row>,
+    settings: &P::Settings,
+    frame: &[u8],
+    time: u64,
+) -> Result<(), OutOfMemory>
+    requires { length frame.now ≤ 262144 }
+    ensures { OnOk result (rows.new.items ≡ rows.old.items ++ P.row_of settings.now (fields frame.now) time ∷ []) }
+{
+    rows.push(P::extract(settings, &parse(frame), time))?;
+    Ok(())
 }
