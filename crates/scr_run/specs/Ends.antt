@@ -29,6 +29,11 @@ abbrev pub status_of_sink : SinkError → Status
 status_of_sink sink.Failed = WriteFault
 status_of_sink sink.OutOfMemory = OutOfMemory
 
+-- the status of a run that was done, or stopped with another
+abbrev pub ended : Result Unit Status → Status
+ended (Ok done) = Done
+ended (Err status) = status
+
 -- this status, unless memory ran out
 abbrev pub IsUnlessOutOfMemory : Status → Status → Type 0
 IsUnlessOutOfMemory status wanted = (status ≡ wanted) ⊎ (status ≡ OutOfMemory)

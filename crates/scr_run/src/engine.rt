@@ -1,13 +1,16 @@
-ghost use Rattle.std.specs.Prelude.{◌≡◌, ◌≤◌, ◌⊎◌, ⊥, ◌++◌, ◌∷◌, [], ℕ, List, length, Some, Ok, Err, IfOk, IfErr, IfSome, OnOk};
+ghost use Rattle.std.specs.Prelude.{◌≡◌, ◌≤◌, ◌⊎◌, ⊥, ◌++◌, ◌∷◌, [], ℕ, List, length, map, Some, Ok, Err, IfOk, IfErr, IfSome, OnOk};
 ghost use Rattle.std.specs.Io.KnownBytes.{IsAtEnd};
 ghost use Rattle.scr_base.specs.Causes.{Rose};
 ghost use Rattle.scr_frame.specs.Fields.{fields};
 ghost use Rattle.scr_pcap.specs.Records.{Record};
 ghost use Rattle.scr_pcap.specs.Reading.{IsReading};
 ghost use Rattle.scr_pcap.specs.declared.error.CaptureError.{CaptureError};
+ghost use Rattle.std.specs.List.{range_with_len};
+ghost use Rattle.scr_plan.specs.Counts.{delivered_count, kept_count};
+ghost use Rattle.scr_plan.specs.Plan.{frame_count, plan_counts};
 ghost use Rattle.scr_run.specs.Rules.{ruled_by};
 ghost use Rattle.scr_run.specs.RunReport.{shaped_text, rows_of};
-ghost use Rattle.scr_run.specs.Ends.{Ends, StopsReading, status_of, IsUnlessOutOfMemory};
+ghost use Rattle.scr_run.specs.Ends.{Ends, ended, StopsReading, status_of, IsUnlessOutOfMemory};
 
 use crate::command_words::Shape;
 use crate::found::write_found;
@@ -65,7 +68,15 @@ fn run_cores<P: Program, S: Source, O: Sink>(
     with_verdicts: bool,
     capture: &mut S,
     out: &mut O,
-) -> Result<(), Status> {
+) -> Result<(), Status>
+    ensures ends { Ends (shaped_text (ruled_by (P.row_of settings.now) (P.verdict_after settings.now) (P.count_after settings.now) P.verdict_names) shape with_verdicts)
+        S.left S.faults O.written O.faults capture.old capture.new out.old out.new (ended result) }
+    ensures late { (out.new ≡ out.old) ⊎ IsAtEnd (S.left capture.new) }
+    ensures wanting { result ≡ Err Status.OutOfMemory → (out.new ≡ out.old) ⊎ Rose (O.wants out.old) (O.wants out.new) }
+    ensures later_capture { S.faults capture.old ≤ S.faults capture.new }
+    ensures later_out { O.faults out.old ≤ O.faults out.new }
+    ensures later_out_wants { O.wants out.old ≤ O.wants out.new }
+{
     let rows = rows_read::<P, S>(alloc, settings, capture)?;
     let plan = RunPlan::make(rows, shape.cores, shape.history, shape.drops);
     let gathered = run_phases::<P>(alloc, settings, &plan)?;
@@ -73,7 +84,16 @@ fn run_cores<P: Program, S: Source, O: Sink>(
 }
 
 // What the cores gathered, as a report whose totals are still to be counted.
-fn report_on(alloc: Global, plan: &RunPlan, gathered: Gathered) -> Report {
+fn report_on(alloc: Global, plan: &RunPlan, gathered: Gathered) -> Report
+    requires cores { gathered.cores ≡ map (plan_counts plan.now) (range_with_len 0 plan.now.cores) }
+    requires delivered { length gathered.verdicts ≡ delivered_count plan.now.drops (frame_count plan.now) }
+    ensures verdicts { result.verdicts ≡ gathered.verdicts }
+    ensures frames { result.frames ≡ frame_count plan.now }
+    ensures delivered { result.delivered ≡ delivered_count plan.now.drops (frame_count plan.now) }
+    ensures kept { result.kept ≡ kept_count plan.now.drops plan.now.history (frame_count plan.now) }
+    ensures cores { result.cores ≡ gathered.cores }
+    ensures flows { result.flows ≡ gathered.flows }
+{
     let frames = plan.rows().len() as u32;
     let Gathered {
         verdicts,

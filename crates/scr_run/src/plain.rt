@@ -1,4 +1,4 @@
-ghost use Rattle.std.specs.Prelude.{◌≡◌, ◌≤◌, ◌⊎◌, ⊥, ◌++◌, ◌∷◌, [], ℕ, List, length, Some, Ok, Err, IfOk, IfErr, IfSome, OnOk};
+ghost use Rattle.std.specs.Prelude.{◌≡◌, ◌<◌, ◌≤◌, ◌⊎◌, ⊥, All, ◌++◌, ◌∷◌, [], ℕ, List, length, Some, Ok, Err, IfOk, IfErr, IfSome, OnOk};
 ghost use Rattle.std.specs.Io.KnownBytes.{IsAtEnd};
 ghost use Rattle.scr_base.specs.Causes.{Rose};
 ghost use Rattle.scr_base.specs.declared.row.Row.{Row};
@@ -6,8 +6,9 @@ ghost use Rattle.scr_frame.specs.Fields.{fields};
 ghost use Rattle.scr_pcap.specs.Records.{Record};
 ghost use Rattle.scr_pcap.specs.Reading.{IsReading};
 ghost use Rattle.scr_pcap.specs.declared.error.CaptureError.{CaptureError};
+ghost use Rattle.scr_replica.specs.OneCore.{verdicts};
 ghost use Rattle.scr_run.specs.Rules.{ruled_by};
-ghost use Rattle.scr_run.specs.RunReport.{plain_text, rows_of, verdicts_of};
+ghost use Rattle.scr_run.specs.RunReport.{plain_text, rows_of, undivided};
 ghost use Rattle.scr_run.specs.Ends.{Ends, StopsReading, status_of, IsUnlessOutOfMemory};
 
 use crate::found::write_found;
@@ -77,6 +78,33 @@ struct OneCore<T: Drop> {
     given: Vec<Given>,
 }
 
+// What the program makes of a capture.
+fn one_core_answer<P: Program, S: Source>(
+    alloc: Global,
+    settings: &P::Settings,
+    capture: &mut S,
+) -> Result<OneCore<P::State>, Status>
+    ensures answer { IfOk result (λ core. IfSome (S.left capture.old) (λ bytes. (records : List Record)
+        × IsReading bytes (Ok records) × (core.given.items ≡ verdicts (P.verdict_after settings.now) (undivided (rows_of (P.row_of settings.now) records)))
+        × P.StandsFor settings.now core.state (rows_of (P.row_of settings.now) records))) }
+    ensures named { IfOk result (λ core. All (λ given. given.verdict.0 < length P.verdict_names) core.given.items) }
+    ensures few { IfOk result (λ core. length core.given.items ≤ 1000000) }
+    ensures end { OnOk result (IsAtEnd (S.left capture.new)) }
+    ensures stop { IfErr result (StopsReading (S.left capture.old) (S.faults capture.old) (S.faults capture.new)) }
+    ensures later { S.faults capture.old ≤ S.faults capture.new }
+{
+    let mut frame = FrameBuf::make(alloc)?;
+    let mut reader = Reader::begin(capture)?;
+    let mut core = OneCore {
+        state: P::fresh(alloc, settings)?,
+        given: Vec::new(alloc),
+    };
+    while let Some(info) = reader.next(capture, &mut frame)? {
+        take::<P>(&mut core, settings, info, frame.bytes())?;
+    }
+    Ok(core)
+}
+
 // Takes the next frame, and gives its verdict.
 fn take<P: Program>(
     core: &mut OneCore<P::State>,
@@ -99,30 +127,4 @@ fn take<P: Program>(
         verdict,
     })?;
     Ok(())
-}
-
-// What the program makes of a capture.
-fn one_core_answer<P: Program, S: Source>(
-    alloc: Global,
-    settings: &P::Settings,
-    capture: &mut S,
-) -> Result<OneCore<P::State>, Status>
-    ensures answer { IfOk result (λ core. IfSome (S.left capture.old) (λ bytes. (records : List Record)
-        × IsReading bytes (Ok records) × (core.given.items ≡ verdicts_of (P.verdict_after settings.now) (rows_of (P.row_of settings.now) records))
-        × P.StandsFor settings.now core.state (rows_of (P.row_of settings.now) records) × (length records ≤ 1000000))) }
-    ensures few { IfOk result (λ core. vec_len core.given ≤ 1000000) }
-    ensures end { OnOk result (IsAtEnd (S.left capture.new)) }
-    ensures stop { IfErr result (StopsReading (S.left capture.old) (S.faults capture.old) (S.faults capture.new)) }
-    ensures later { S.faults capture.old ≤ S.faults capture.new }
-{
-    let mut frame = FrameBuf::make(alloc)?;
-    let mut reader = Reader::begin(capture)?;
-    let mut core = OneCore {
-        state: P::fresh(alloc, settings)?,
-        given: Vec::new(alloc),
-    };
-    while let Some(info) = reader.next(capture, &mut frame)? {
-        take::<P>(&mut core, settings, info, frame.bytes())?;
-    }
-    Ok(core)
 }
