@@ -8,6 +8,8 @@ use Rattle.scr_knock.specs.Ports.{ports_in}
 use Rattle.scr_run.specs.declared.command_words.settings.ProgramSettings.{ProgramSettings}
 use Rattle.scr_run.specs.declared.command_words.settings.ProgramSettings.TheVariants.{Ddos, Heavy, Bucket, Knock, Conn}
 use Rattle.scr_run.specs.declared.command_words.settings.RunSettings.{RunSettings}
+use Rattle.scr_run.specs.declared.command_words.settings.Shape.{Shape}
+use Rattle.scr_knock.specs.declared.settings.KnockSettings.{KnockSettings}
 use Rattle.scr_run.specs.declared.command_words.operand.ProgramName.TheVariants as program
 use Rattle.scr_run.specs.declared.command_words.operand.Operand.{Operand}
 use Rattle.scr_run.specs.declared.command_words.operand.Operand.TheVariants as operand
@@ -27,6 +29,12 @@ abbrev pub history_for : List (List ℕ) → ℕ
 history_for operands =
     option_map_or number_of (given (table operand.History).name operands) (number_for operand.Cores operands - 1)
 
+-- the ports that a text spells
+abbrev pub HasPorts : List ℕ → KnockSettings → Type 0
+HasPorts text settings = MatchResult (ports_in text)
+    (λ ports. (settings.first ≡ ports.0) × (settings.second ≡ ports.1) × (settings.third ≡ ports.2))
+    (λ refusal. ⊥)
+
 -- the chosen program, with its numbers
 abbrev pub HasProgram : List (List ℕ) → ProgramSettings → Type 0
 HasProgram operands (Ddos settings) = (chosen operands ≡ Some program.Ddos)
@@ -40,21 +48,24 @@ HasProgram operands (Bucket settings) = (chosen operands ≡ Some program.Bucket
     × (settings.burst ≡ number_for operand.Burst operands)
     × (settings.flows ≡ number_for operand.Flows operands)
 HasProgram operands (Knock settings) = (chosen operands ≡ Some program.Knock)
-    × MatchResult (ports_in (value_for operand.Ports operands))
-    (λ ports. (settings.first ≡ ports.0) × (settings.second ≡ ports.1) × (settings.third ≡ ports.2)) (λ refusal. ⊥)
+    × HasPorts (value_for operand.Ports operands) settings
     × (settings.flows ≡ number_for operand.Flows operands)
 HasProgram operands (Conn settings) = (chosen operands ≡ Some program.Conn)
     × (settings.idle ≡ number_for operand.Idle operands)
     × (settings.flows ≡ number_for operand.Flows operands)
 
+-- how frames go to cores
+pub record HasShape (operands : List (List ℕ)) (shape : Shape) : Type 0 where
+  pub cores : shape.cores ≡ number_for operand.Cores operands
+  pub history : shape.history ≡ history_for operands
+  pub drops : Spells (value_for operand.Drop operands) shape.drops
+  pub ring : shape.ring ≡ number_for operand.Ring operands
+  pub threads : shape.threads ≡ bytes_eq (value_for operand.Threads operands) (codes "yes")
+
 -- what the operands choose: the value of each
 pub record AreChosen (operands : List (List ℕ)) (settings : RunSettings) : Type 0 where
   pub program : HasProgram operands settings.program
-  pub cores : settings.shape.cores ≡ number_for operand.Cores operands
-  pub history : settings.shape.history ≡ history_for operands
-  pub drops : Spells (value_for operand.Drop operands) settings.shape.drops
-  pub ring : settings.shape.ring ≡ number_for operand.Ring operands
-  pub threads : settings.shape.threads ≡ bytes_eq (value_for operand.Threads operands) (codes "yes")
+  pub shape : HasShape operands settings.shape
   pub start : settings.start ≡ number_for operand.Start operands
   pub frames : settings.frames ≡ number_for operand.Frames operands
   pub hosts : settings.hosts ≡ number_for operand.Hosts operands

@@ -28,12 +28,18 @@ program_name Bucket = codes "bucket"
 program_name Knock = codes "knock"
 program_name Conn = codes "conn"
 
+abbrev pub all_commands : List Command
+all_commands = Run ∷ Plain ∷ Load ∷ []
+
+abbrev pub all_programs : List ProgramName
+all_programs = Ddos ∷ Heavy ∷ Bucket ∷ Knock ∷ Conn ∷ []
+
 -- the command or the program with a name
 unfoldable pub command_named : List ℕ → Option Command
-command_named name = find (λ command. bytes_eq (command_name command) name) (Run ∷ Plain ∷ Load ∷ [])
+command_named name = find (λ command. bytes_eq (command_name command) name) all_commands
 
 unfoldable pub program_named : List ℕ → Option ProgramName
-program_named name = find (λ program. bytes_eq (program_name program) name) (Ddos ∷ Heavy ∷ Bucket ∷ Knock ∷ Conn ∷ [])
+program_named name = find (λ program. bytes_eq (program_name program) name) all_programs
 
 -- a line of the table: the name, who takes it, what its value is, and the value that stands where none is given
 pub record Line : Type 0 where

@@ -107,8 +107,9 @@ impl Operand {
         ensures { result ≡ operand_named name.now }
     {
         OPERANDS
-            .into_iter()
+            .iter()
             .find(|operand| operand.line().name == name)
+            .copied()
     }
 
     /// The operand's line in the table.
@@ -166,10 +167,14 @@ fn number(least: u64, greatest: u64) -> Form
 
 impl Command {
     /// The command with this name.
+    #[tactic(auto, unfolding(crate::specs::Operands::command_named))]
     pub(crate) fn named(name: &[u8]) -> Option<Command>
         ensures { result ≡ command_named name.now }
     {
-        COMMANDS.into_iter().find(|command| command.name() == name)
+        COMMANDS
+            .iter()
+            .find(|command| command.name() == name)
+            .copied()
     }
 
     fn name(self) -> &'static [u8]
@@ -188,7 +193,10 @@ impl ProgramName {
     pub(crate) fn named(name: &[u8]) -> Option<ProgramName>
         ensures { result ≡ program_named name.now }
     {
-        PROGRAMS.into_iter().find(|program| program.name() == name)
+        PROGRAMS
+            .iter()
+            .find(|program| program.name() == name)
+            .copied()
     }
 
     fn name(self) -> &'static [u8]

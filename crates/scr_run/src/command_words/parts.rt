@@ -24,6 +24,7 @@ pub(crate) fn is_named(name: &[u8], word: &[u8]) -> bool
 }
 
 /// The value of the first word that has this name.
+#[tactic(auto, unfolding(crate::specs::WordParts::given))]
 pub(crate) fn given<'a>(name: &[u8], words: &'a [Word]) -> Option<&'a [u8]>
     ensures { option_copied result ≡ given name.now words.now }
 {
