@@ -52,9 +52,9 @@ pub record ReadsVerdicts (names : List (List ℕ)) (old new : Cursor) (verdicts 
 
 -- the frames line was read
 pub record ReadsFrames (old new : Cursor) (frames delivered kept : ℕ) : Type 0 where
-  pub frames : frames < 2 ^ 32
-  pub delivered : delivered < 2 ^ 32
-  pub kept : kept < 2 ^ 32
+  pub frames_fit : frames < 2 ^ 32
+  pub delivered_fit : delivered < 2 ^ 32
+  pub kept_fit : kept < 2 ^ 32
   pub past : GoesPast old new (frames_line frames delivered kept ∷ [])
 
 -- the current line is no frames line
@@ -73,7 +73,7 @@ pub record ReadsCores (old new : Cursor) (cores : List CoreCounts) : Type 0 wher
 
 -- the flows line was read
 pub record ReadsFlows (old new : Cursor) (flows : ℕ) : Type 0 where
-  pub flows : flows < 2 ^ 64
+  pub flows_fit : flows < 2 ^ 64
   pub past : GoesPast old new (flows_line flows ∷ [])
 
 -- the current line is no flows line

@@ -5,7 +5,7 @@ ghost use Rattle.scr_report.specs.Text.{verdict_line, frames_line, core_line, fl
 ghost use Rattle.scr_report.specs.Grammar.{MayFollow, AreCounts};
 
 use crate::names::Names;
-use crate::number::number_behind;
+use crate::number::{before_feed, behind, number_behind};
 use scr_plan::{CoreCounts, Given};
 
 // The counts of the frames line.
@@ -30,8 +30,7 @@ pub fn verdict_in(names: &Names, last: u32, line: &[u8]) -> Option<Given>
         (λ given. MayFollow names.now last given × (line.now ≡ verdict_line names.now given)) }
 {
     let (number, rest) = number_behind(b"", u32::MAX.into(), line)?;
-    let name = rest.strip_prefix(b" ")?.strip_suffix(b"\n")?;
-    let verdict = names.verdict(name)?;
+    let verdict = names.verdict(before_feed(behind(b" ", rest)?)?)?;
     let number = number as u32;
     if number <= last {
         return None;
@@ -102,8 +101,7 @@ pub fn total_in(name: &str, line: &[u8]) -> Option<u64>
         ((total : ℕ) → total < 2 ^ 64 → line.now ≢ total_line (name.now, total))
         (λ total. line.now ≡ total_line (name.now, total)) }
 {
-    let rest = line.strip_prefix(b"verdict ")?;
-    let rest = rest.strip_prefix(name.as_bytes())?;
+    let rest = behind(name.as_bytes(), behind(b"verdict ", line)?)?;
     let (total, rest) = number_behind(b" ", u64::MAX, rest)?;
     if !ends(rest) {
         return None;

@@ -40,16 +40,18 @@ impl<'a> Lines<'a> {
     pub fn line(&self) -> &'a [u8]
         ensures { result.now ≡ first_line self.now.text }
     {
-        &self.text[..self.length_of_line]
+        self.text.split_at(self.length_of_line).0
     }
 
     // Goes to the next line. A line that is allowed has two bytes at least.
     pub fn pass(&mut self)
         requires { 2 ≤ length (first_line self.old.text) }
-        ensures { GoesPast self.old self.new (first_line self.old.text ∷ []) }
+        ensures past { GoesPast self.old self.new (first_line self.old.text ∷ []) }
+        ensures shorter { length self.new.text < length self.old.text }
     {
-        self.text = &self.text[self.length_of_line..];
-        self.length_of_line = length_of_line(self.text);
+        let (_, text) = self.text.split_at(self.length_of_line);
+        self.text = text;
+        self.length_of_line = length_of_line(text);
         self.number += 1;
     }
 

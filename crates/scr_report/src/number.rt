@@ -1,4 +1,4 @@
-ghost use Rattle.std.specs.Prelude.{◌≡◌, ◌≢◌, ℕ, ◌≤◌, ◌++◌, List, ⊥, true, false, length, decimal, MatchOption};
+ghost use Rattle.std.specs.Prelude.{◌≡◌, ◌≢◌, ℕ, ◌≤◌, ◌++◌, ◌∷◌, [], List, true, false, length, decimal, MatchOption};
 ghost use Rattle.std.specs.Str.{all_ascii_digits};
 ghost use Rattle.scr_report.specs.Parts.{begins_with_digit, IsLabelled};
 
@@ -10,9 +10,23 @@ pub fn number_behind<'a>(label: &[u8], greatest: u64, text: &'a [u8]) -> Option<
         ((number : ℕ) (rest : List ℕ) → IsLabelled label.now greatest text.now number rest → ⊥)
         (λ found. IsLabelled label.now greatest text.now found.0 found.1.now) }
 {
-    let (digits, rest) = split_digits(text.strip_prefix(label)?);
+    let (digits, rest) = split_digits(behind(label, text)?);
     let number = decimal_of(digits, greatest)?;
     Some((number, rest))
+}
+
+// What stands behind a label at the front of a text.
+pub fn behind<'a>(label: &[u8], text: &'a [u8]) -> Option<&'a [u8]>
+    ensures { MatchOption result ((rest : List ℕ) → text.now ≢ label.now ++ rest) (λ rest. text.now ≡ label.now ++ rest.now) }
+{
+    text.strip_prefix(label)
+}
+
+// What stands before a line feed at the end of a text.
+pub fn before_feed(text: &[u8]) -> Option<&[u8]>
+    ensures { MatchOption result ((front : List ℕ) → text.now ≢ front ++ 10 ∷ []) (λ front. text.now ≡ front.now ++ 10 ∷ []) }
+{
+    text.strip_suffix(b"\n")
 }
 
 // The digits at the front of a text, and what stands behind them.
