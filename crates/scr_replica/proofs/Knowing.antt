@@ -3,7 +3,7 @@ use Rattle.std.proofs.Common.{◌≡◌, ℕ, zero, suc, ◌+◌, ◌-◌, ◌<�
 use Rattle.std.specs.Prelude.{slice_get}
 use Rattle.std.proofs.lemmas.Bool.{false_from_ne_true, cases_lt}
 use Rattle.std.proofs.lemmas.List.{length-append, length-replicate, length_push, length-drop, length-take-le, append-nil}
-use Rattle.std.proofs.lemmas.List.FromFn.{map-range_with_len_more}
+use Rattle.std.proofs.lemmas.List.FromFn.{map-range_with_len_more, length-map-range_with_len}
 use Rattle.scr_base.specs.declared.row.Row.{Row}
 use Rattle.scr_plan.specs.Delivered.{IsDeliveredTo}
 use Rattle.scr_plan.specs.Kept.{Carries, IsCarried, first_carried}
@@ -23,6 +23,10 @@ module _ (plan : Plan) (core : ℕ) where
   unfolding entries_up_to
   entries-more n p next =
       ap (entries_up_to plan core) (sym next) ∙ map-range_with_len_more (entry_of plan core) 1 n p (omega arith)
+
+  pub length-entries : (p : ℕ) → length (entries_up_to plan core p) ≡ p
+  unfolding entries_up_to
+  length-entries p = length-map-range_with_len (entry_of plan core) 1 p
 
   -- one final entry more
   pub final_push : (known : List Entry) (entry : Entry) (p : ℕ) → IsFinal known → length known + 1 ≡ p → entry ≡ entry_of plan core p

@@ -1,6 +1,6 @@
 ghost use Rattle.std.specs.Prelude.{◌≡◌};
 ghost use Rattle.std.specs.Option.{option_copied};
-ghost use Rattle.scr_replica.specs.Entries.{row_in};
+ghost use Rattle.scr_replica.specs.Entries.{row_in, is_delivered};
 
 use scr_base::Row;
 
@@ -24,5 +24,12 @@ impl Entry {
             Entry::Delivered(row) | Entry::Carried(row) => Some(row),
             Entry::Lost => None,
         }
+    }
+
+    /// Whether the packet's own frame was delivered to the core.
+    pub(crate) fn is_delivered(&self) -> bool
+        ensures { result ≡ is_delivered self.now }
+    {
+        matches!(self, Entry::Delivered(_))
     }
 }

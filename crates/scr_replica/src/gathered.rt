@@ -14,6 +14,19 @@ pub struct CoreResult {
     pub flows: u64,
 }
 
+impl Model for CoreResult {
+    ghost use Rattle.scr_replica.specs.Answers.{CoreAnswer};
+
+    ghost Value = { CoreAnswer };
+
+    ghost view = { λ it. record {
+      core = it.core;
+      verdicts = it.verdicts.items;
+      counts = it.counts;
+      flows = it.flows;
+    } };
+}
+
 /// What all cores make of a run.
 #[derive(Debug, Drop)]
 pub struct Gathered {
@@ -23,4 +36,16 @@ pub struct Gathered {
     pub cores: Vec<CoreCounts>,
     /// The entries of the last state, on which all cores agree.
     pub flows: u64,
+}
+
+impl Model for Gathered {
+    ghost use Rattle.scr_replica.specs.Answers.{Answer};
+
+    ghost Value = { Answer };
+
+    ghost view = { λ it. record {
+      verdicts = it.verdicts.items;
+      cores = it.cores.items;
+      flows = it.flows;
+    } };
 }

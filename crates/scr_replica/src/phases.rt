@@ -1,3 +1,10 @@
+ghost use Rattle.std.specs.Prelude.{◌≡◌, ◌≤◌, map, length, IfOk};
+ghost use Rattle.std.specs.List.{range_with_len};
+ghost use Rattle.scr_plan.specs.Plan.{plan_counts};
+ghost use Rattle.scr_replica.specs.OneCore.{verdicts, entries};
+ghost use Rattle.scr_replica.specs.Entries.{AllFinal};
+ghost use Rattle.scr_replica.specs.Answers.{core_answers};
+
 use crate::filling::filled;
 use crate::gathered::{CoreResult, Gathered};
 use crate::known::Known;
@@ -12,11 +19,17 @@ use std::alloc::Global;
 fn results_of<P: Program>(
     alloc: Global,
     settings: &P::Settings,
+    plan: &RunPlan,
     cores: &[Known],
-) -> Result<Vec<CoreResult>, OutOfMemory> {
+) -> Result<Vec<CoreResult>, OutOfMemory>
+    requires { AllFinal plan.now cores.now }
+    ensures answers { IfOk result (λ results. results.items ≡ core_answers (P.verdict_after settings.now) (P.count_after settings.now) plan.now) }
+    ensures count { IfOk result (λ results. length results.items ≡ plan.now.cores) }
+    ensures some { IfOk result (λ results. 1 ≤ length results.items) }
+{
     let mut results = Vec::new(alloc);
-    for core in 0..cores.len() {
-        results.push(replay::<P>(alloc, settings, cores, core as u32)?)?;
+    for core in 0..plan.cores() {
+        results.push(replay::<P>(alloc, settings, plan, cores, core)?)?;
     }
     Ok(results)
 }
@@ -26,8 +39,12 @@ pub fn run_phases<P: Program>(
     alloc: Global,
     settings: &P::Settings,
     plan: &RunPlan,
-) -> Result<Gathered, OutOfMemory> {
+) -> Result<Gathered, OutOfMemory>
+    ensures verdicts { IfOk result (λ it. it.verdicts ≡ verdicts (P.verdict_after settings.now) plan.now) }
+    ensures cores { IfOk result (λ it. it.cores ≡ map (plan_counts plan.now) (range_with_len 0 plan.now.cores)) }
+    ensures flows { IfOk result (λ it. it.flows ≡ entries (P.count_after settings.now) plan.now) }
+{
     let cores = filled(alloc, plan)?;
-    let results = results_of::<P>(alloc, settings, &cores)?;
-    gather(alloc, plan.rows().len() as u32, &results)
+    let results = results_of::<P>(alloc, settings, plan, &cores)?;
+    gather(alloc, plan, &results)
 }
