@@ -1,9 +1,3 @@
-<<<<<<< HEAD
--- stub
-use Rattle.std.specs.Prelude.{ℕ, List, []}
-abbrev pub generated : (start frames hosts : ℕ) → List ℕ
-generated start frames hosts = []
-=======
 -- A made-up capture: so many records of some hosts that talk to one server, drawn from a start.
 -- Record i, from 1 on, has the i-th number behind the start; the high 32 bits of this number pick the host and the frame.
 -- A host is the client with the address 10.0.0.1 or one above, at port 40000. The server is 10.128.0.1, at port 80 for TCP
@@ -126,4 +120,3 @@ record_bytes r = record_header r.time (length r.content) ++ r.content
 -- the capture
 unfoldable pub generated : (start frames hosts : ℕ) → List ℕ
 generated start frames hosts = generated_header ++ flat_map record_bytes (generated_records start frames hosts)
->>>>>>> 915ce5d84a1bcbf32a2b9b8a7688d508da8a7ce9
