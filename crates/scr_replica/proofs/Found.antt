@@ -113,10 +113,10 @@ module _ (plan : Plan) (cores : List (List Entry)) (final : AllFinal plan cores)
         elim (cases_lt core turn) as (λ _. row_at cores core place ≡ None) [
           | inl early ↦ sym (row_at-take cores turn core place early) ∙ before core (omega arith)
           | inr late ↦ (
-            let at : turn + (core - turn) ≡ core = omega arith in
-            ap (λ (k : ℕ). row_at cores k place) (sym at)
-            ∙ sym (row_at-drop cores turn (core - turn) place)
-            ∙ after (core - turn) (omega (arith, length-drop turn cores)))
+              let at : turn + (core - turn) ≡ core = omega arith in
+              ap (λ (k : ℕ). row_at cores k place) (sym at)
+              ∙ sym (row_at-drop cores turn (core - turn) place)
+              ∙ after (core - turn) (omega (arith, length-drop turn cores)))
         ])
 
     -- what the search of the second part finds is the kept row, where the first part has none

@@ -27,8 +27,11 @@ module _ (plan : Plan) (core : ℕ) (message : Message) (known : List Entry) (fr
       let is = is_frame_to plan core (number_of message) frame.is_delivered in
       let rows = ap (λ (m : Message). length (rows_of m)) frame.is_frame in
       omega (
-        arith, rows, is.is.to, length-drop first (take (number_of message) plan.rows),
-        length-take-le (number_of message) plan.rows is.is.to
+        arith,
+        rows,
+        is.is.to,
+        length-drop first (take (number_of message) plan.rows),
+        length-take-le (number_of message) plan.rows is.is.to,
       )
 
   -- what stands before them and isn't known is lost

@@ -98,8 +98,7 @@ module _ (verdict_after : List Row → Row → Verdict) (plan : Plan) where
               absurd (omega arith)
           by_given (Some first) e =
               let same : Some first ≡ Some g =
-              sym (ap (λ (o : Option Given). slice_get (cons_option o (rest core (n + 1))) 0) e) ∙ sym first_is ∙ there in
-              (
+              sym (ap (λ (o : Option Given). slice_get (cons_option o (rest core (n + 1))) 0) e) ∙ sym first_is ∙ there in (
                 sym (given-own core is) ∙ e ∙ same,
                 sym (drop-drop 1 place own)
                     ∙ ap (drop 1) (left ∙ rest-here core ∙ ap (λ (o : Option Given). cons_option o (rest core (n + 1))) e),
@@ -179,14 +178,14 @@ module _ (verdict_after : List Row → Row → Verdict) (plan : Plan) where
             left = λ other other_below.
                 elim (cases_eq other core) as (λ _. drop (get_or (set places core (get_or places core 0 + 1)) other 0) (course verdict_after plan other) ≡ rest verdict_after plan other (n + 1)) [
                   | inl same ↦ (
-                    let place : get_or (set places core (get_or places core 0 + 1)) other 0 ≡ get_or places core 0 + 1 =
-                    ap (λ (k : ℕ). get_or (set places core (get_or places core 0 + 1)) k 0) same
-                    ∙ get_or-set_same places core (get_or places core 0 + 1) 0 within in
-                    ap (λ (k : ℕ). drop k (course verdict_after plan other)) place
-                    ∙ ap (λ (k : ℕ). drop (get_or places core 0 + 1) (course verdict_after plan k)) same
-                    ∙ ap (drop (get_or places core 0 + 1)) (sym own-is)
-                    ∙ both.1
-                    ∙ ap (λ (k : ℕ). rest verdict_after plan k (n + 1)) (sym same))
+                      let place : get_or (set places core (get_or places core 0 + 1)) other 0 ≡ get_or places core 0 + 1 =
+                      ap (λ (k : ℕ). get_or (set places core (get_or places core 0 + 1)) k 0) same
+                      ∙ get_or-set_same places core (get_or places core 0 + 1) 0 within in
+                      ap (λ (k : ℕ). drop k (course verdict_after plan other)) place
+                      ∙ ap (λ (k : ℕ). drop (get_or places core 0 + 1) (course verdict_after plan k)) same
+                      ∙ ap (drop (get_or places core 0 + 1)) (sym own-is)
+                      ∙ both.1
+                      ∙ ap (λ (k : ℕ). rest verdict_after plan k (n + 1)) (sym same))
                   | inr apart ↦
                       ap (λ (k : ℕ). drop k (course verdict_after plan other)) (get_or-set_other places core other (get_or places core 0 + 1) 0 apart)
                       ∙ is.left other other_below

@@ -89,10 +89,10 @@ module _ (plan : Plan) where
             each = λ core below.
                 elim (cases_eq core own) as (λ _. Knows plan core (n + 1) (get_or (set cores own known) core [])) [
                   | inl same ↦ (
-                    let here : get_or (set cores own known) core [] ≡ known =
-                    ap (λ (k : ℕ). get_or (set cores own known) k []) same ∙ get_or-set_same cores own known [] within in
-                    let known_own : Knows plan own (n + 1) known = subst (λ (k : ℕ). Knows plan own k known) number knows in
-                    subst (Knows plan core (n + 1)) (sym here) (subst (λ (k : ℕ). Knows plan k (n + 1) known) (sym same) known_own))
+                      let here : get_or (set cores own known) core [] ≡ known =
+                      ap (λ (k : ℕ). get_or (set cores own known) k []) same ∙ get_or-set_same cores own known [] within in
+                      let known_own : Knows plan own (n + 1) known = subst (λ (k : ℕ). Knows plan own k known) number knows in
+                      subst (Knows plan core (n + 1)) (sym here) (subst (λ (k : ℕ). Knows plan k (n + 1) known) (sym same) known_own))
                   | inr other ↦
                       subst (Knows plan core (n + 1)) (sym (get_or-set_other cores own core known [] other))
                       (Knows-other plan core n (n + 1) (get_or cores core []) refl

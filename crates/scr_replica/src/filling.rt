@@ -34,11 +34,7 @@ fn lose_all(cores: &mut [Known], number: u32) -> Result<(), OutOfMemory>
 }
 
 // Gives every core the beacon, where there is one.
-fn pass_beacon(
-    cores: &mut [Known],
-    history: u32,
-    outgoing: &Outgoing,
-) -> Result<(), OutOfMemory>
+fn pass_beacon(cores: &mut [Known], history: u32, outgoing: &Outgoing) -> Result<(), OutOfMemory>
     ensures { (plan : Plan) (n : ℕ) → plan.history ≡ history → Adds plan (n + 1) outgoing.now → AllKnow plan n cores.old → OnOk result (AllKnow plan n cores.new) }
 {
     match outgoing.beacon {

@@ -28,11 +28,7 @@ fn verdict_at(own: &[Given], place: usize, n: u32) -> Option<Given>
 }
 
 // The verdicts of all cores in the order of the frames: frame n's is the next one of its core.
-fn merged(
-    alloc: Global,
-    plan: &RunPlan,
-    results: &[CoreResult],
-) -> Result<Vec<Given>, OutOfMemory>
+fn merged(alloc: Global, plan: &RunPlan, results: &[CoreResult]) -> Result<Vec<Given>, OutOfMemory>
     requires { length results.now ≡ plan.now.cores }
     ensures { (verdict_after : List Row → Row → Verdict) → map (λ it. it.verdicts) results.now ≡ courses verdict_after plan.now → IfOk result (λ merged. merged.items ≡ verdicts verdict_after plan.now) }
 {

@@ -46,54 +46,58 @@ loop-n-preserved c =
     let within : core < length places = omega (arith, was.count) in
     let place : c.index.result.now ≡ get_or places core 0 = c.index.ensures ∙ get_or_default places core c.index.result.now 0 within in
     let own : (verdict_after : List Row → Row → Verdict) → map (λ (it : CoreAnswer). it.verdicts) c.args.results.now ≡ courses verdict_after plan
-        → c.verdicts_of-own.result.now ≡ course verdict_after plan core =
+    → c.verdicts_of-own.result.now ≡ course verdict_after plan core =
     λ verdict_after are.
     c.verdicts_of-own.ensures
     ∙ ap (λ (it : CoreAnswer). it.verdicts) c.index-results-core.is
     ∙ own_course verdict_after plan c.args.results.now core c.index-results-core.result are counted below in
     elim c.match-verdict_at.branch [
       | in-Some+in_ok-push w ↦ (
-        let old : w.index_mut.result.now ≡ get_or places core 0 =
-        w.index_mut.ensures.value ∙ get_or_default places core w.index_mut.result.now 0 within in
-        let written : c.match-verdict_at.places.items ≡ set places core (get_or places core 0 + 1) =
-        ap (λ (v : Vec ℕ Global). v.items) w.places-is ∙ ap (λ (k : ℕ). set places core (k + 1)) old in
-        let pushed : c.match-verdict_at.merged.items ≡ c.loop-n.merged.items ++ w.in-Some.given ∷ [] =
-        ap (λ (v : Vec Given Global). v.items) w.merged-is ∙ w.in_ok-push.ensures.items in
-        let found : slice_get c.verdicts_of-own.result.now (get_or places core 0) ≡ Some w.in-Some.given =
-        ap (slice_get c.verdicts_of-own.result.now) (sym place) ∙ w.in-Some.ensures.some.0 in
-        record {
-          count = ap length written ∙ length-set places core (get_or places core 0 + 1) ∙ was.count;
-          small = λ other.
-              elim (cases_eq other core) as (λ _. get_or c.match-verdict_at.places.items other 0 < n + 1) [
-                | inl same ↦ omega (
-                  arith, ap (λ (xs : List ℕ). get_or xs other 0) written,
-                  ap (λ (k : ℕ). get_or (set places core (get_or places core 0 + 1)) k 0) same,
-                  get_or-set_same places core (get_or places core 0 + 1) 0 within, was.small core
-                )
-                | inr apart ↦ omega (
-                  arith, ap (λ (xs : List ℕ). get_or xs other 0) written,
-                  get_or-set_other places core other (get_or places core 0 + 1) 0 apart, was.small other
-                )
-              ];
-          merged = λ verdict_after are.
-              subst (λ (xs : List ℕ). IsMerged verdict_after plan (n + 1) xs c.match-verdict_at.merged.items) (sym written)
-              (subst (IsMerged verdict_after plan (n + 1) (set places core (get_or places core 0 + 1))) (sym pushed)
-              (IsMerged-taken verdict_after plan n from to places c.loop-n.merged.items (was.merged verdict_after are) core c.verdicts_of-own.result.now core-is below
-              (own verdict_after are) w.in-Some.given within found w.in-Some.ensures.some.1));
-        })
+          let old : w.index_mut.result.now ≡ get_or places core 0 =
+          w.index_mut.ensures.value ∙ get_or_default places core w.index_mut.result.now 0 within in
+          let written : c.match-verdict_at.places.items ≡ set places core (get_or places core 0 + 1) =
+          ap (λ (v : Vec ℕ Global). v.items) w.places-is ∙ ap (λ (k : ℕ). set places core (k + 1)) old in
+          let pushed : c.match-verdict_at.merged.items ≡ c.loop-n.merged.items ++ w.in-Some.given ∷ [] =
+          ap (λ (v : Vec Given Global). v.items) w.merged-is ∙ w.in_ok-push.ensures.items in
+          let found : slice_get c.verdicts_of-own.result.now (get_or places core 0) ≡ Some w.in-Some.given =
+          ap (slice_get c.verdicts_of-own.result.now) (sym place) ∙ w.in-Some.ensures.some.0 in
+          record {
+            count = ap length written ∙ length-set places core (get_or places core 0 + 1) ∙ was.count;
+            small = λ other.
+                elim (cases_eq other core) as (λ _. get_or c.match-verdict_at.places.items other 0 < n + 1) [
+                  | inl same ↦ omega (
+                    arith,
+                    ap (λ (xs : List ℕ). get_or xs other 0) written,
+                    ap (λ (k : ℕ). get_or (set places core (get_or places core 0 + 1)) k 0) same,
+                    get_or-set_same places core (get_or places core 0 + 1) 0 within,
+                    was.small core,
+                  )
+                  | inr apart ↦ omega (
+                    arith,
+                    ap (λ (xs : List ℕ). get_or xs other 0) written,
+                    get_or-set_other places core other (get_or places core 0 + 1) 0 apart,
+                    was.small other,
+                  )
+                ];
+            merged = λ verdict_after are.
+                subst (λ (xs : List ℕ). IsMerged verdict_after plan (n + 1) xs c.match-verdict_at.merged.items) (sym written)
+                (subst (IsMerged verdict_after plan (n + 1) (set places core (get_or places core 0 + 1))) (sym pushed)
+                (IsMerged-taken verdict_after plan n from to places c.loop-n.merged.items (was.merged verdict_after are) core c.verdicts_of-own.result.now core-is below
+                (own verdict_after are) w.in-Some.given within found w.in-Some.ensures.some.1));
+          })
       | in_default w ↦ (
-        let kept : c.match-verdict_at.places.items ≡ places = ap (λ (v : Vec ℕ Global). v.items) w.places-is in
-        let same : c.match-verdict_at.merged.items ≡ c.loop-n.merged.items = ap (λ (v : Vec Given Global). v.items) w.merged-is in
-        let later = subst (λ (k : ℕ). MatchOption (slice_get c.verdicts_of-own.result.now k) (Unit {0}) (λ g. g.number ≢ n)) place w.in_default.ensures.none in
-        record {
-          count = ap length kept ∙ was.count;
-          small = λ other. omega (arith, ap (λ (xs : List ℕ). get_or xs other 0) kept, was.small other);
-          merged = λ verdict_after are.
-              subst (λ (xs : List ℕ). IsMerged verdict_after plan (n + 1) xs c.match-verdict_at.merged.items) (sym kept)
-              (subst (IsMerged verdict_after plan (n + 1) places) (sym same)
-              (IsMerged-passed verdict_after plan n from to places c.loop-n.merged.items (was.merged verdict_after are) core c.verdicts_of-own.result.now core-is below
-              (own verdict_after are) later));
-        })
+          let kept : c.match-verdict_at.places.items ≡ places = ap (λ (v : Vec ℕ Global). v.items) w.places-is in
+          let same : c.match-verdict_at.merged.items ≡ c.loop-n.merged.items = ap (λ (v : Vec Given Global). v.items) w.merged-is in
+          let later = subst (λ (k : ℕ). MatchOption (slice_get c.verdicts_of-own.result.now k) (Unit {0}) (λ g. g.number ≢ n)) place w.in_default.ensures.none in
+          record {
+            count = ap length kept ∙ was.count;
+            small = λ other. omega (arith, ap (λ (xs : List ℕ). get_or xs other 0) kept, was.small other);
+            merged = λ verdict_after are.
+                subst (λ (xs : List ℕ). IsMerged verdict_after plan (n + 1) xs c.match-verdict_at.merged.items) (sym kept)
+                (subst (IsMerged verdict_after plan (n + 1) places) (sym same)
+                (IsMerged-passed verdict_after plan n from to places c.loop-n.merged.items (was.merged verdict_after are) core c.verdicts_of-own.result.now core-is below
+                (own verdict_after are) later));
+          })
     ]
 
 pub returns : goal.returns

@@ -17,6 +17,10 @@ pub returns-clause-count : goal.returns-clause-count
 returns-clause-count g c =
     let one = core_answer (g.P.Program.verdict_after c.args.settings.now) (g.P.Program.count_after c.args.settings.now) c.args.plan.now in
     omega (
-      arith, ap length c.loop-core.invariant, length-map-range_with_len one 0 c.loop-core.core, c.loop-core-test.false,
-      c.loop-core.auto.core-end, c.cores-core-end.ensures.cores
+      arith,
+      ap length c.loop-core.invariant,
+      length-map-range_with_len one 0 c.loop-core.core,
+      c.loop-core-test.false,
+      c.loop-core.auto.core-end,
+      c.cores-core-end.ensures.cores,
     )

@@ -2,7 +2,6 @@ use Rattle.std.proofs.Common.{◌≤◌, length, arith}
 use Rattle.scr_replica.proofs.Found.{long_behind, long_before, found_behind, found_last}
 use Rattle.scr_replica.proofs.replay.any_row.Goals as goal
 
-
 pub first_row-requires : goal.first_row-requires
 first_row-requires c =
     let few : c.core_of-turn.result ≤ length c.args.cores.now = omega (arith, c.core_of-turn.ensures, c.cores-count.ensures.cores, c.cores-count.ensures.ranges.a_core, c.requires.known.count) in
