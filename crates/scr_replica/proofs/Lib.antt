@@ -6,3 +6,5 @@ pub mod Packets
 pub mod Found
 pub mod Taking
 pub mod InOrder
+pub mod Undivided
+pub mod Counted

@@ -1,7 +1,7 @@
 -- The one-core answer of a plan: one core takes the rows of the kept packets in order, each once, and the answer is the
 -- verdict of each delivered frame's packet, and how many entries there are at the end. A program is given by its verdict
 -- of a row that comes after a list of rows, and by its count of entries after such a list.
-use Rattle.std.specs.Prelude.{ℕ, ◌-◌, List, Option, None, filter_map, if◌then◌else◌}
+use Rattle.std.specs.Prelude.{ℕ, ◌-◌, List, [], Option, None, filter_map, if◌then◌else◌}
 use Rattle.std.specs.List.{range_with_len}
 use Rattle.std.specs.Option.{option_map}
 use Rattle.scr_base.specs.declared.row.Row.{Row}
@@ -45,3 +45,7 @@ module _ (verdict_after : List Row → Row → Verdict) where
   -- all of these
   abbrev pub course : Plan → (core : ℕ) → List Given
   course plan core = course_up_to plan core (frame_count plan)
+
+-- the plan of a run where one core is given every frame
+abbrev pub undivided : List Row → Plan
+undivided rows = record { rows = rows; cores = 1; history = 0; drops = [] }

@@ -9,7 +9,7 @@ use Rattle.scr_frame.specs.Fields.{fields}
 use Rattle.scr_pcap.specs.Records.{Record}
 use Rattle.scr_plan.specs.Counts.{delivered_count, kept_count}
 use Rattle.scr_plan.specs.Plan.{Plan, frame_count, plan_counts}
-use Rattle.scr_replica.specs.OneCore.{verdicts, entries}
+use Rattle.scr_replica.specs.OneCore.{verdicts, entries, undivided}
 use Rattle.scr_report.specs.Outcome.{Outcome, report_of, report_text}
 use Rattle.scr_run.specs.declared.command_words.settings.Command.{Command}
 use Rattle.scr_run.specs.declared.command_words.settings.Command.TheVariants.{Run, Plain, Load}
@@ -20,12 +20,9 @@ use Rattle.scr_run.specs.Rules.{Rules}
 abbrev pub rows_of : (Parsed → ℕ → Row) → List Record → List Row
 rows_of row_of records = map (λ r. row_of (fields r.content) r.time) records
 
--- the plan of a run with this shape, and that of a run where one core is given every frame
+-- the plan of a run with this shape
 abbrev pub shaped : Shape → List Row → Plan
 shaped shape rows = record { rows = rows; cores = shape.cores; history = shape.history; drops = shape.drops }
-
-abbrev pub undivided : List Row → Plan
-undivided rows = record { rows = rows; cores = 1; history = 0; drops = [] }
 
 -- what comes of a plan
 abbrev pub outcome_of : Rules → Plan → Outcome

@@ -6,9 +6,9 @@ ghost use Rattle.scr_frame.specs.Fields.{fields};
 ghost use Rattle.scr_pcap.specs.Records.{Record};
 ghost use Rattle.scr_pcap.specs.Reading.{IsReading};
 ghost use Rattle.scr_pcap.specs.declared.error.CaptureError.{CaptureError};
-ghost use Rattle.scr_replica.specs.OneCore.{verdicts};
+ghost use Rattle.scr_replica.specs.OneCore.{verdicts, undivided};
 ghost use Rattle.scr_run.specs.Rules.{ruled_by};
-ghost use Rattle.scr_run.specs.RunReport.{plain_text, rows_of, undivided};
+ghost use Rattle.scr_run.specs.RunReport.{plain_text, rows_of};
 ghost use Rattle.scr_run.specs.Ends.{Ends, StopsReading, status_of, IsUnlessOutOfMemory};
 
 use crate::found::write_found;
