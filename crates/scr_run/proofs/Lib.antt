@@ -1,4 +1,3 @@
-pub mod OneCore
 pub mod Progress
 pub mod Ending
 pub mod GivenValues
