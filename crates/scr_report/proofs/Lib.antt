@@ -5,3 +5,5 @@ pub mod Stages
 pub mod Refusals
 pub mod OneReading
 pub mod Ends
+pub mod Written
+pub mod ReadBack

@@ -33,7 +33,7 @@ report_lines names outcome = verdict_lines names outcome ++ counter_lines names 
 -- the report, with the lines of the verdicts or without
 abbrev pub report_text : List (List ℕ) → Outcome → Bool → List ℕ
 report_text names outcome with_verdicts =
-    concat ((if with_verdicts then verdict_lines names outcome else []) ++ counter_lines names outcome)
+    concat (map (verdict_line names) (if with_verdicts then outcome.verdicts else []) ++ counter_lines names outcome)
 
 -- how often the name at a place was given, and how often each name was
 abbrev pub total_of : List Given → ℕ → ℕ

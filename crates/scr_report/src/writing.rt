@@ -39,10 +39,19 @@ fn put_report<O: Sink>(
     ensures text { BatchesText (O.written out.old) (O.written out.new) batch.old batch.new result (report_text names.now report.now with_verdicts) }
     ensures cause { HasSinkCause O.faults O.wants out.old out.new result }
 {
-    if with_verdicts {
-        put_verdicts(names, &report.verdicts, batch, out)?;
-    }
+    put_verdicts(names, chosen(report, with_verdicts), batch, out)?;
     put_counters(names, report, batch, out)
+}
+
+// The verdicts whose lines are wanted.
+fn chosen(report: &Report, with_verdicts: bool) -> &[Given]
+    ensures { result.now ≡ (if with_verdicts then report.now.verdicts else []) }
+{
+    if with_verdicts {
+        &report.verdicts
+    } else {
+        &[]
+    }
 }
 
 fn put_verdicts<O: Sink>(
