@@ -1,6 +1,6 @@
 -- The verdicts of the cores, merged frame by frame.
-use Rattle.std.proofs.Common.{◌≡◌, ◌≢◌, ℕ, zero, suc, ◌+◌, ◌-◌, ◌<◌, ◌≤◌, Bool, true, false, cond, ◌&&◌, List, [], ◌∷◌, ◌++◌, length, get_or, set, map, replicate, drop, inl, inr, Option, Some, None, option_to_list, arith, refl, sym, ap, subst, ◌∙◌, eqb}
-use Rattle.std.specs.Prelude.{filter_map, slice_get, is_some, IfSome, IfNone, MatchOption}
+use Rattle.std.proofs.Common.{◌≡◌, ◌≢◌, ℕ, zero, suc, ◌+◌, ◌-◌, ◌<◌, ◌≤◌, Bool, true, false, cond, ◌&&◌, List, [], ◌∷◌, ◌++◌, length, get_or, set, map, replicate, drop, inl, inr, Option, Some, None, option_to_list, arith, refl, sym, ap, ◌∙◌}
+use Rattle.std.specs.Prelude.{filter_map, slice_get, MatchOption}
 use Rattle.std.specs.List.{range_with_len, cons_option}
 use Rattle.std.specs.Option.{option_map}
 use Rattle.std.proofs.lemmas.Bool.{eq-eqb, cases_eq}

@@ -1,12 +1,11 @@
 -- What a core knows, as its messages come.
-use Rattle.std.proofs.Common.{◌≡◌, ℕ, zero, suc, ◌+◌, ◌-◌, ◌<◌, ◌≤◌, Bool, true, false, cond, List, [], ◌∷◌, ◌++◌, length, replicate, take, drop, max, Option, Some, None, inl, inr, arith, refl, sym, ap, subst, ◌∙◌, append_assoc}
-use Rattle.std.specs.Prelude.{slice_get}
+use Rattle.std.proofs.Common.{◌≡◌, ℕ, zero, suc, ◌+◌, ◌-◌, ◌<◌, ◌≤◌, Bool, true, false, cond, List, [], ◌∷◌, ◌++◌, length, replicate, Option, Some, None, inl, inr, arith, refl, sym, ap, subst, ◌∙◌, append_assoc}
 use Rattle.std.proofs.lemmas.Bool.{false_from_ne_true, cases_lt}
-use Rattle.std.proofs.lemmas.List.{length-append, length-replicate, length_push, length-drop, length-take-le, append-nil}
+use Rattle.std.proofs.lemmas.List.{length_push, append-nil}
 use Rattle.std.proofs.lemmas.List.FromFn.{map-range_with_len_more, length-map-range_with_len}
 use Rattle.scr_base.specs.declared.row.Row.{Row}
 use Rattle.scr_plan.specs.Delivered.{IsDeliveredTo}
-use Rattle.scr_plan.specs.Kept.{Carries, IsCarried, first_carried}
+use Rattle.scr_plan.specs.Kept.{first_carried}
 use Rattle.scr_plan.specs.Plan.{Plan, frame_count, row_of, delivers_to, carries_to}
 use Rattle.scr_plan.proofs.Packets.{Decides-delivered_to, Decides-carried}
 use Rattle.scr_replica.specs.declared.entry.Entry.{Entry}

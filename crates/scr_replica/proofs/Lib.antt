@@ -6,5 +6,7 @@ pub mod Packets
 pub mod Found
 pub mod Taking
 pub mod InOrder
+pub mod OneCoreOfAll
+pub mod Deciding
 pub mod Undivided
 pub mod Counted

@@ -1,5 +1,5 @@
 -- Entries that are lost, one after another.
-use Rattle.std.proofs.Common.{◌≡◌, ℕ, suc, ◌+◌, ◌-◌, ◌≤◌, ◌<◌, List, [], ◌∷◌, ◌++◌, length, replicate, max, arith, refl, sym, ap, ◌∙◌, append_assoc}
+use Rattle.std.proofs.Common.{◌≡◌, ℕ, ◌+◌, ◌-◌, ◌≤◌, List, [], ◌∷◌, ◌++◌, length, replicate, max, arith, ap, ◌∙◌, append_assoc}
 use Rattle.std.proofs.lemmas.List.{length-append, length-replicate, replicate_more, length_push}
 use Rattle.scr_replica.specs.declared.entry.Entry.{Entry}
 use Rattle.scr_replica.specs.declared.entry.Entry.TheVariants.{Lost}

@@ -1,15 +1,13 @@
 -- A packet of a plan: who knows it, and whether it is kept.
-use Rattle.std.proofs.Common.{◌≡◌, ℕ, ◌+◌, ◌-◌, ◌%◌, ◌<◌, ◌≤◌, Bool, true, false, cond, List, length, get_or, Option, Some, None, arith, refl, sym, ap, subst, ◌∙◌}
-use Rattle.std.specs.Prelude.{slice_get, is_some, IfSome}
+use Rattle.std.proofs.Common.{◌≡◌, ℕ, ◌-◌, ◌<◌, ◌≤◌, Bool, true, false, cond, get_or, Option, Some, None, arith, refl, ap, ◌∙◌}
+use Rattle.std.specs.Prelude.{is_some}
 use Rattle.std.proofs.lemmas.Bool.{false_from_ne_true}
 use Rattle.std.proofs.lemmas.Option.{slice_get-get_or}
 use Rattle.scr_base.specs.declared.row.Row.{Row}
 use Rattle.scr_plan.specs.Delivered.{core_number}
-use Rattle.scr_plan.specs.Kept.{IsKept}
 use Rattle.scr_plan.specs.Plan.{Plan, IsPlan, frame_count, row_of, delivers_to, carries_to, keeps}
 use Rattle.scr_plan.specs.FinalEntry.{final_entry}
 use Rattle.scr_plan.proofs.Packets.{Decides-delivered_to, Decides-carried, Decides-kept, Carries-own, kept-carried}
-use Rattle.scr_replica.specs.declared.entry.Entry.{Entry}
 use Rattle.scr_replica.specs.Entries.{row_in, is_delivered, entry_with, entry_of}
 use Rattle.scr_replica.specs.OneCore.{kept_row}
 

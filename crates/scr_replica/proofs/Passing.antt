@@ -1,5 +1,5 @@
 -- What all cores know, as the numbers come.
-use Rattle.std.proofs.Common.{◌≡◌, ◌≢◌, ℕ, ◌+◌, ◌-◌, ◌<◌, ◌≤◌, Bool, true, false, cond, ◌&&◌, List, [], ◌∷◌, length, get_or, set, replicate, Result, Ok, Err, Option, Some, None, inl, inr, arith, refl, sym, ap, subst, ◌∙◌, eqb}
+use Rattle.std.proofs.Common.{◌≡◌, ℕ, ◌+◌, ◌-◌, ◌<◌, Bool, true, false, cond, ◌&&◌, List, [], ◌∷◌, length, get_or, set, replicate, Result, Ok, Err, Some, inl, inr, arith, refl, sym, ap, subst, ◌∙◌, eqb}
 use Rattle.std.specs.Prelude.{OnOk}
 use Rattle.std.proofs.lemmas.List.{length-set, length-replicate, get_or-replicate, get_or-set_same, get_or-set_other}
 use Rattle.std.proofs.lemmas.Bool.{cases_eq, eq-eqb}
@@ -13,7 +13,7 @@ use Rattle.scr_wire.specs.Lane.{frame, has_beacon, beacon_before}
 use Rattle.scr_sequencer.specs.declared.outgoing.Outgoing.{Outgoing}
 use Rattle.scr_sequencer.specs.Answers.{Adds, beacons_of}
 use Rattle.scr_replica.specs.declared.entry.Entry.{Entry}
-use Rattle.scr_replica.specs.Entries.{Knows, IsFrameTo, AllKnow, AllFinal, with_lost, entries_up_to}
+use Rattle.scr_replica.specs.Entries.{Knows, IsFrameTo, AllKnow, AllFinal, with_lost}
 use Rattle.scr_replica.proofs.Knowing.{Knows-none, Knows-other, Knows-beacon, Knows-end}
 
 -- what holds where a call succeeds

@@ -5,7 +5,7 @@ use Rattle.scr_base.specs.declared.row.Row.{Row}
 use Rattle.scr_base.specs.declared.row.Verdict.{Verdict}
 use Rattle.scr_plan.specs.declared.counting.CoreCounts.{CoreCounts}
 use Rattle.scr_plan.specs.declared.given.Given.{Given}
-use Rattle.scr_plan.specs.Plan.{Plan, frame_count, delivers_to, carries_to, keeps, plan_counts}
+use Rattle.scr_plan.specs.Plan.{Plan, delivers_to, carries_to, keeps, plan_counts}
 use Rattle.scr_replica.specs.OneCore.{course, verdicts, entries}
 
 pub record CoreAnswer : Type 0 where

@@ -1,8 +1,8 @@
 -- The one-core answer of a plan: one core takes the rows of the kept packets in order, each once, and the answer is the
 -- verdict of each delivered frame's packet, and how many entries there are at the end. A program is given by its verdict
 -- of a row that comes after a list of rows, and by its count of entries after such a list.
-use Rattle.std.specs.Prelude.{ℕ, ◌-◌, List, [], Option, None, filter_map, if◌then◌else◌}
-use Rattle.std.specs.List.{range_with_len}
+use Rattle.std.specs.Prelude.{ℕ, ◌-◌, List, [], length, take, Option, None, filter_map, if◌then◌else◌}
+use Rattle.std.specs.List.{range_with_len, slice_get}
 use Rattle.std.specs.Option.{option_map}
 use Rattle.scr_base.specs.declared.row.Row.{Row}
 use Rattle.scr_base.specs.declared.row.Verdict.{Verdict}
@@ -45,6 +45,15 @@ module _ (verdict_after : List Row → Row → Verdict) where
   -- all of these
   abbrev pub course : Plan → (core : ℕ) → List Given
   course plan core = course_up_to plan core (frame_count plan)
+
+  -- Where no frame is dropped, the same can be said over the rows alone: the verdict of packet n, where there is such a
+  -- packet, comes after all rows before it.
+  abbrev pub given_in : List Row → ℕ → Option Given
+  given_in rows n =
+      option_map (λ row. record { number = n; verdict = verdict_after (take (n - 1) rows) row }) (slice_get rows (n - 1))
+
+  unfoldable pub all_verdicts : List Row → List Given
+  all_verdicts rows = filter_map (given_in rows) (range_with_len 1 (length rows))
 
 -- the plan of a run where one core is given every frame
 abbrev pub undivided : List Row → Plan

@@ -57,7 +57,7 @@ fn counts_of_all(alloc: Global, results: &[CoreResult]) -> Result<Vec<CoreCounts
 }
 
 /// What all cores make of a run, from what each of them makes of it.
-pub(crate) fn gather(
+pub fn gather(
     alloc: Global,
     plan: &RunPlan,
     results: &[CoreResult],

@@ -50,7 +50,7 @@ stuck-at_frames names verdicts text follow no_more none =
     } in
     let are : AreTotals names 0 [] = record { flows_fit = omega arith; no_more = omega arith; fit = All-nil Small } in
     let on = λ (outcome : Outcome) (readable : IsReadable names outcome) (others : List (List ℕ)) (same : report_lines names outcome ≡ map (verdict_line names) verdicts ++ others).
-        goes-on names 0 outcome.frames outcome.delivered outcome.kept verdicts outcome.verdicts _ others follow readable.verdicts same in
+    goes-on names 0 outcome.frames outcome.delivered outcome.kept verdicts outcome.verdicts _ others follow readable.verdicts same in
     record {
       begin = begins-front names (map (verdict_line names) verdicts) _ (begins-front names (up_to_cores names verdicts 0 0 0 []) _ (begins names verdicts 0 0 0 [] 0 [] read are));
       no_next = λ outcome readable line more same.
@@ -100,7 +100,7 @@ stuck-at_flows names verdicts f d k cores text read no_more none =
 -- the lines of the other names begin with that of the next one
 next-total : (names : List (List ℕ)) (totals : List ℕ) (place : ℕ) → length totals ≡ length names → place < length names
     → map total_line (zip (drop place names) (drop place totals))
-        ≡ total_line (name_at names place, get_or totals place 0) ∷ map total_line (zip (drop (place + 1) names) (drop (place + 1) totals))
+    ≡ total_line (name_at names place, get_or totals place 0) ∷ map total_line (zip (drop (place + 1) names) (drop (place + 1) totals))
 next-total names totals place all below =
     let ns : drop place names ≡ name_at names place ∷ drop (place + 1) names = drop_more names place [] below in
     let ts : drop place totals ≡ get_or totals place 0 ∷ drop (place + 1) totals = drop_more totals place 0 (omega arith) in
@@ -114,9 +114,9 @@ stuck-at_total : (names : List (List ℕ)) (verdicts : List Given) (f d k : ℕ)
 stuck-at_total names verdicts f d k cores flows totals text read are below none =
     let lines : List (List ℕ) = up_to_totals names verdicts f d k cores flows totals in
     let next = λ (outcome : Outcome) (readable : IsReadable names outcome) (others : List (List ℕ)) (same : report_lines names outcome ≡ lines ++ others).
-        let has = has-totals names verdicts f d k cores flows totals outcome others read are.flows_fit readable same in
-        totals-go-on names totals outcome.totals others readable.a_total_each are.no_more has.same_totals
-        ∙ next-total names outcome.totals (length totals) readable.a_total_each below in
+    let has = has-totals names verdicts f d k cores flows totals outcome others read are.flows_fit readable same in
+    totals-go-on names totals outcome.totals others readable.a_total_each are.no_more has.same_totals
+    ∙ next-total names outcome.totals (length totals) readable.a_total_each below in
     record {
       begin = begins names verdicts f d k cores flows totals read are;
       no_next = λ outcome readable line more same is.

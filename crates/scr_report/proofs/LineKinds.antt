@@ -72,9 +72,9 @@ first-same names p q is_p is_q same =
     elim (cases_order p q) [
       | inl equal ↦ equal
       | inr apart ↦ elim apart [
-          | inl before ↦ absurd (is_q.first p before same)
-          | inr behind ↦ absurd (is_p.first q behind (sym same))
-        ]
+        | inl before ↦ absurd (is_q.first p before same)
+        | inr behind ↦ absurd (is_p.first q behind (sym same))
+      ]
     ]
 
 pub verdict-same : (names : List (List ℕ)) (last other : ℕ) (x y : Given) → MayFollow names last x → MayFollow names other y

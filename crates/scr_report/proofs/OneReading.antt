@@ -91,9 +91,9 @@ ReadsAs-same names bytes (Err (Line m)) (Err (Line n)) had has is is_other =
     elim (cases_order m n) [
       | inl same ↦ ap (λ (i : ℕ). Err (Line i)) (sym same)
       | inr apart ↦ elim apart [
-          | inl before ↦ absurd (bad-first names bytes m n is is_other before)
-          | inr behind ↦ absurd (bad-first names bytes n m is_other is behind)
-        ]
+        | inl before ↦ absurd (bad-first names bytes m n is is_other before)
+        | inr behind ↦ absurd (bad-first names bytes n m is_other is behind)
+      ]
     ]
 ReadsAs-same names bytes (Err (Line m)) (Err (Ended n)) had has is is_other =
     absurd (is.refused (begins-take names m (lines_in bytes) is_other.before))

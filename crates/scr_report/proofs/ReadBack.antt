@@ -1,5 +1,5 @@
 -- What is written of a plain report has whole lines, which are read back.
-use Rattle.std.proofs.Common.{◌≡◌, ◌≢◌, ℕ, ◌+◌, ◌<◌, ◌≤◌, ◌^◌, List, [], ◌∷◌, ◌++◌, All, length, map, get_or, Bool, true, false, ◌||◌, codes, decimal, eqb, arith, refl, sym, ap, ◌∙◌, subst, append_assoc}
+use Rattle.std.proofs.Common.{◌≡◌, ◌≢◌, ℕ, zero, suc, take, ◌+◌, ◌<◌, ◌≤◌, ◌^◌, List, [], ◌∷◌, ◌++◌, All, length, map, get_or, Bool, true, false, ◌||◌, codes, decimal, eqb, arith, refl, sym, ap, ◌∙◌, subst, append_assoc}
 use Rattle.std.specs.List.{concat, list_any, zip, enumerate_from}
 use Rattle.std.specs.Str.{all_ascii_digits}
 use Rattle.std.specs.Char.{is_ascii_digit}
@@ -13,6 +13,7 @@ use Rattle.scr_report.specs.Text.{line, name_at, verdict_line, frames_line, core
 use Rattle.scr_report.specs.Outcome.{Outcome, report_lines, report_text}
 use Rattle.scr_report.specs.Grammar.{IsFirstOfName, MayFollow, FollowOn, AreCounts, IsReadable, Spells}
 use Rattle.scr_report.specs.ReadBack.{ArePlain, FitsNames, Grow, IsPlain}
+use Rattle.scr_report.specs.Parts.{last_number}
 use Rattle.scr_report.proofs.Numbers.{all-decimal}
 use Rattle.scr_report.proofs.Cutting.{has_feed, IsWhole, lines-concat}
 
@@ -63,12 +64,16 @@ whole-cores : (first : ℕ) (cores : List CoreCounts) → first + length cores �
 whole-cores first [] few each = All-nil IsWhole
 whole-cores first (x ∷ cores) few each =
     let fit = All-head AreCounts x cores each in
+    let skipped : List (List ℕ) = codes "skipped" ∷ decimal x.skipped ∷ [] in
+    let recovered : List (List ℕ) = codes "recovered" ∷ decimal x.recovered ∷ skipped in
+    let carried : List (List ℕ) = codes "carried" ∷ decimal x.carried ∷ recovered in
+    let delivered : List (List ℕ) = codes "delivered" ∷ decimal x.delivered ∷ carried in
     All-cons IsWhole (core_line (first, x)) (map core_line (enumerate_from (first + 1) cores))
-    (whole-line (codes "core") _ refl
-    (numbered first _ (omega arith)
-    (labelled (codes "delivered") x.delivered _ refl (omega (arith, fit.delivered))
-    (labelled (codes "carried") x.carried _ refl (omega (arith, fit.carried))
-    (labelled (codes "recovered") x.recovered _ refl (omega (arith, fit.recovered))
+    (whole-line (codes "core") (decimal first ∷ delivered) refl
+    (numbered first delivered (omega arith)
+    (labelled (codes "delivered") x.delivered carried refl (omega (arith, fit.delivered))
+    (labelled (codes "carried") x.carried recovered refl (omega (arith, fit.carried))
+    (labelled (codes "recovered") x.recovered skipped refl (omega (arith, fit.recovered))
     (labelled (codes "skipped") x.skipped [] refl (omega (arith, fit.skipped)) (All-nil HasNoFeed)))))))
     (whole-cores (first + 1) cores (omega arith) (All-tail AreCounts x cores each))
 
@@ -81,18 +86,20 @@ whole-totals (name ∷ names) (x ∷ totals) none fit =
     All-cons IsWhole (total_line (name, x)) (map total_line (zip names totals))
     (whole-line (codes "verdict") (name ∷ decimal x ∷ []) refl
     (All-cons HasNoFeed name (decimal x ∷ []) (none 0 (omega arith)) (numbered x [] (All-head Small x totals fit) (All-nil HasNoFeed))))
-    (whole-totals names totals (λ i below. none (i + 1) (omega arith)) (All-tail Small x totals fit))
+    (whole-totals names totals (λ i below. none (suc i) (omega arith)) (All-tail Small x totals fit))
 
 -- each line of a report that may be read is whole, where no name has a line feed
 whole-report : (names : List (List ℕ)) (outcome : Outcome) → ArePlain names → IsReadable names outcome → All IsWhole (report_lines names outcome)
 whole-report names r plain is =
     let cs : List (List ℕ) = map core_line (enumerate_from 0 r.cores) in
     let ts : List (List ℕ) = map total_line (zip names r.totals) in
+    let kept : List (List ℕ) = codes "kept" ∷ decimal r.kept ∷ [] in
+    let delivered : List (List ℕ) = codes "delivered" ∷ decimal r.delivered ∷ kept in
     let frames : IsWhole (frames_line r.frames r.delivered r.kept) =
-    whole-line (codes "frames") _ refl (numbered r.frames _ (omega (arith, is.frames))
-    (labelled (codes "delivered") r.delivered _ refl (omega (arith, is.delivered))
+    whole-line (codes "frames") (decimal r.frames ∷ delivered) refl (numbered r.frames delivered (omega (arith, is.frames))
+    (labelled (codes "delivered") r.delivered kept refl (omega (arith, is.delivered))
     (labelled (codes "kept") r.kept [] refl (omega (arith, is.kept)) (All-nil HasNoFeed)))) in
-    let flows : IsWhole (flows_line r.flows) = whole-line (codes "flows") _ refl (numbered r.flows [] is.flows (All-nil HasNoFeed)) in
+    let flows : IsWhole (flows_line r.flows) = whole-line (codes "flows") (decimal r.flows ∷ []) refl (numbered r.flows [] is.flows (All-nil HasNoFeed)) in
     All-append IsWhole (map (verdict_line names) r.verdicts) (frames_line r.frames r.delivered r.kept ∷ (cs ++ flows_line r.flows ∷ ts))
     (whole-verdicts names 0 r.verdicts plain is.verdicts)
     (All-cons IsWhole (frames_line r.frames r.delivered r.kept) (cs ++ flows_line r.flows ∷ ts) frames
@@ -111,6 +118,17 @@ pub follow-on : (names : List (List ℕ)) (last : ℕ) (verdicts : List Given) �
 follow-on names last [] plain grow named fit = tt
 follow-on names last (x ∷ verdicts) plain grow named fit =
     let Named : Given → Type 0 = λ given. given.verdict.0 < length names in
-    let Fits : Given → Type 0 = λ given. given.number < 2 ^ 32 in
-    (record { above = grow.0; fits = All-head Fits x verdicts fit; named = first-of_name names x.verdict.0 plain (All-head Named x verdicts named) },
-    follow-on names x.number verdicts plain grow.1 (All-tail Named x verdicts named) (All-tail Fits x verdicts fit))
+    let Fits : Given → Type 0 = λ given. given.number < 2 ^ 32 in (
+      record { above = grow.0; fits = All-head Fits x verdicts fit; named = first-of_name names x.verdict.0 plain (All-head Named x verdicts named) },
+      follow-on names x.number verdicts plain grow.1 (All-tail Named x verdicts named) (All-tail Fits x verdicts fit),
+    )
+
+-- growing numbers: at a place, and one more
+pub Grow-at : (last : ℕ) (xs : List Given) (i : ℕ) (d : Given) → i < length xs → Grow last xs → last_number last (take i xs) < (get_or xs i d).number
+Grow-at last [] i d below grow = absurd (omega arith)
+Grow-at last (x ∷ xs) zero d below grow = grow.0
+Grow-at last (x ∷ xs) (suc i) d below grow = Grow-at x.number xs i d (omega arith) grow.1
+
+pub Grow-push : (last : ℕ) (xs : List Given) (x : Given) → Grow last xs → last_number last xs < x.number → Grow last (xs ++ x ∷ [])
+Grow-push last [] x before here = (here, tt)
+Grow-push last (y ∷ xs) x before here = (before.0, Grow-push y.number xs x before.1 here)

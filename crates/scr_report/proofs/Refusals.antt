@@ -158,7 +158,7 @@ has-totals-on : (names : List (List ℕ)) (verdicts : List Given) (f d k : ℕ) 
     → HasCores names verdicts f d k cores outcome (flows_line flows ∷ (map total_line (zip names totals) ++ others))
     → (more : List CoreCounts) → outcome.cores ≡ cores ++ more
     → flows_line flows ∷ (map total_line (zip names totals) ++ others)
-        ≡ map core_line (enumerate_from (0 + length cores) more) ++ (flows_line outcome.flows ∷ map total_line (zip names outcome.totals))
+    ≡ map core_line (enumerate_from (0 + length cores) more) ++ (flows_line outcome.flows ∷ map total_line (zip names outcome.totals))
     → HasTotals names verdicts f d k cores flows totals outcome others
 has-totals-on names verdicts f d k cores flows totals outcome others readable fits front (x ∷ more) are same =
     absurd (core-not_flows (0 + length cores) flows x (sym (heads same)))

@@ -54,7 +54,7 @@ two-put xs ys a b c p q r result first second =
 -- the counters: what each of its four parts leaves where it fails, and what all of them leave
 counters-are : (names : List (List ℕ)) (r : Outcome) → concat (counter_lines names r)
     ≡ frames_line r.frames r.delivered r.kept
-      ++ (concat (map core_line (enumerate_from 0 r.cores)) ++ (flows_line r.flows ++ concat (map total_line (zip names r.totals))))
+    ++ (concat (map core_line (enumerate_from 0 r.cores)) ++ (flows_line r.flows ++ concat (map total_line (zip names r.totals))))
 counters-are names r =
     ap (λ (t : List ℕ). frames_line r.frames r.delivered r.kept ++ t)
     (concat-append (map core_line (enumerate_from 0 r.cores)) (flows_line r.flows ∷ map total_line (zip names r.totals)))

@@ -42,7 +42,7 @@ pub fn verdict_in(names: &Names, last: u32, line: &[u8]) -> Option<Given>
 pub fn frames_in(line: &[u8]) -> Option<FrameCounts>
     ensures { MatchOption result
         ((frames delivered kept : ℕ) → frames < 2 ^ 32 → delivered < 2 ^ 32 → kept < 2 ^ 32
-            → line.now ≢ frames_line frames delivered kept)
+        → line.now ≢ frames_line frames delivered kept)
         (λ counts. line.now ≡ frames_line counts.frames counts.delivered counts.kept) }
 {
     let most = u32::MAX.into();

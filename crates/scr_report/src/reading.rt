@@ -14,7 +14,8 @@ use std::alloc::Global;
 /// How many cores a report may have.
 const MOST_CORES: usize = 16;
 
-/// The report that some bytes spell.
+/// The report that some bytes spell. Otherwise `Line` with the first line that no report has behind the lines before it,
+/// or that has no line feed, or `Ended` with the line that is missing where the bytes end behind allowed lines.
 pub fn read_report(alloc: Global, names: &Names, bytes: &[u8]) -> Result<Report, ReportError>
     requires { length bytes.now < 2 ^ 32 }
     ensures answer { ReadsAs names.now bytes.now result }
@@ -42,11 +43,7 @@ pub fn read_report(alloc: Global, names: &Names, bytes: &[u8]) -> Result<Report,
 }
 
 // The verdict lines, as many as there are.
-fn read_verdicts(
-    alloc: Global,
-    names: &Names,
-    lines: &mut Lines,
-) -> Result<Vec<Given>, ReportError>
+fn read_verdicts(alloc: Global, names: &Names, lines: &mut Lines) -> Result<Vec<Given>, ReportError>
     ensures { MatchResult result (λ verdicts. ReadsVerdicts names.now lines.old lines.new verdicts.items)
         (λ error. error ≡ ReportError.OutOfMemory) }
 {

@@ -47,11 +47,7 @@ fn put_report<O: Sink>(
 fn chosen(report: &Report, with_verdicts: bool) -> &[Given]
     ensures { result.now ≡ (if with_verdicts then report.now.verdicts else []) }
 {
-    if with_verdicts {
-        &report.verdicts
-    } else {
-        &[]
-    }
+    if with_verdicts { &report.verdicts } else { &[] }
 }
 
 fn put_verdicts<O: Sink>(
@@ -144,11 +140,7 @@ fn put_frames<O: Sink>(
     )
 }
 
-fn put_cores<O: Sink>(
-    cores: &[CoreCounts],
-    batch: &mut Batch,
-    out: &mut O,
-) -> Result<(), SinkError>
+fn put_cores<O: Sink>(cores: &[CoreCounts], batch: &mut Batch, out: &mut O) -> Result<(), SinkError>
     ensures text { BatchesText (O.written out.old) (O.written out.new) batch.old batch.new result
         (concat (map core_line (enumerate_from 0 cores.now))) }
     ensures cause { HasSinkCause O.faults O.wants out.old out.new result }

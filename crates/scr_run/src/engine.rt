@@ -1,4 +1,4 @@
-ghost use Rattle.std.specs.Prelude.{◌≡◌, ◌≤◌, ◌⊎◌, ⊥, ◌++◌, ◌∷◌, [], ℕ, List, length, map, Some, Ok, Err, IfOk, IfErr, IfSome, OnOk};
+ghost use Rattle.std.specs.Prelude.{◌≡◌, ◌≤◌, ◌⊎◌, ◌++◌, ◌∷◌, [], ℕ, List, length, map, Some, Ok, Err, IfOk, IfErr, IfSome, OnOk};
 ghost use Rattle.std.specs.Io.KnownBytes.{IsAtEnd};
 ghost use Rattle.scr_base.specs.Causes.{Rose};
 ghost use Rattle.scr_frame.specs.Fields.{fields};
@@ -18,7 +18,7 @@ use crate::status::Status;
 use scr_base::{OutOfMemory, Row, Sink, Source};
 use scr_frame::parse;
 use scr_pcap::{FrameBuf, Reader};
-use scr_plan::RunPlan;
+use scr_plan::{CoreCounts, RunPlan};
 use scr_program::Program;
 use scr_replica::{Gathered, run_phases};
 use scr_report::Report;
@@ -94,22 +94,30 @@ fn report_on(alloc: Global, plan: &RunPlan, gathered: Gathered) -> Report
     ensures cores { result.cores ≡ gathered.cores }
     ensures flows { result.flows ≡ gathered.flows }
 {
-    let frames = plan.rows().len() as u32;
+    let kept = kept_of(plan, &gathered.cores);
     let Gathered {
         verdicts,
         cores,
         flows,
     } = gathered;
-    let skipped = cores.first().map_or(0, |core| core.skipped);
     Report {
         delivered: verdicts.len() as u32,
         verdicts,
-        frames,
-        kept: frames - skipped,
+        frames: plan.rows().len() as u32,
+        kept,
         cores,
         flows,
         totals: Vec::new(alloc),
     }
+}
+
+// How many packets are kept: all but those that a core skipped.
+fn kept_of(plan: &RunPlan, cores: &[CoreCounts]) -> u32
+    requires cores { cores.now ≡ map (plan_counts plan.now) (range_with_len 0 plan.now.cores) }
+    ensures { result ≡ kept_count plan.now.drops plan.now.history (frame_count plan.now) }
+{
+    let frames = plan.rows().len() as u32;
+    frames - cores[0].skipped
 }
 
 // The rows of all frames of a capture.

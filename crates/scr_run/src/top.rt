@@ -1,4 +1,4 @@
-ghost use Rattle.std.specs.Prelude.{◌≡◌, ◌≤◌, ◌<◌, ◌-◌, ◌^◌, ◌⊎◌, ⊥, true, false, ℕ, List, Some, Ok, Err, length};
+ghost use Rattle.std.specs.Prelude.{◌≡◌, ◌≤◌, ◌<◌, ◌-◌, ◌^◌, ◌⊎◌, true, false, ℕ, List, Some, Ok, Err, length};
 ghost use Rattle.std.specs.Io.KnownBytes.{Appends, IsAtEnd};
 ghost use Rattle.scr_base.specs.Causes.{Rose};
 ghost use Rattle.scr_base.specs.Streams.{AppendsPrefix};
@@ -11,7 +11,7 @@ ghost use Rattle.scr_run.specs.WordFaults.{AreRefused};
 ghost use Rattle.scr_run.specs.GivenSettings.{AreAccepted};
 ghost use Rattle.scr_run.specs.FaultLines.{fault_line};
 ghost use Rattle.scr_run.specs.Ends.{HasFault, status_of, IsUnlessOutOfMemory};
-ghost use Rattle.scr_run.specs.Answers.{asks_for_load, HasWritten, HasBegun, MainEnds};
+ghost use Rattle.scr_run.specs.Answers.{asks_for_load, HasWritten, HasBegun, IsOfNoCapture, MainEnds};
 
 use crate::command_words::{WordsError, read_words};
 use crate::commands::run_chosen;
@@ -92,7 +92,7 @@ fn run<S: Source, O: Sink>(alloc: Global, words: &[Word], capture: &mut S, out: 
     requires few_words { length words.now < 2 ^ 32 - 1 }
     ensures ends { MainEnds words.now S.left S.faults O.written O.faults capture.old capture.new out.old out.new result }
     ensures refused { (fault : WordFault) → AreRefused words.now fault → IsUnlessOutOfMemory result (Status.Words fault) }
-    ensures complete_load { asks_for_load words.now ≡ true → (Rose (O.faults out.old) (O.faults out.new) → ⊥) → IsUnlessOutOfMemory result Status.Done ⊎ (settings : RunSettings) → AreAccepted words.now settings → ⊥ }
+    ensures complete_load { asks_for_load words.now ≡ true → (Rose (O.faults out.old) (O.faults out.new) → ⊥) → IsUnlessOutOfMemory result Status.Done ⊎ ((settings : RunSettings) → AreAccepted words.now settings → ⊥) }
     ensures unread { asks_for_load words.now ≡ true → (capture.new ≡ capture.old) }
     ensures late { asks_for_load words.now ≡ false → (out.new ≡ out.old) ⊎ IsAtEnd (S.left capture.new) }
     ensures wanting { result ≡ Status.OutOfMemory → (out.new ≡ out.old) ⊎ Rose (O.wants out.old) (O.wants out.new) }

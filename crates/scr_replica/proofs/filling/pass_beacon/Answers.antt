@@ -1,4 +1,4 @@
-use Rattle.std.proofs.Common.{arith, sym, ap, ◌∙◌, ◌-◌, ℕ}
+use Rattle.std.proofs.Common.{sym, ap, ◌∙◌, ◌-◌, ℕ}
 use Rattle.scr_replica.proofs.Passing.{on_ok, AllKnow-beacon}
 use Rattle.scr_replica.proofs.filling.pass_beacon.Goals as goal
 

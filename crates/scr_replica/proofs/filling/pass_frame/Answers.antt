@@ -1,9 +1,8 @@
-use Rattle.std.proofs.Common.{◌≡◌, ◌+◌, ◌-◌, ◌<◌, ℕ, List, [], length, get_or, true, arith, ap, sym, subst, ◌∙◌}
+use Rattle.std.proofs.Common.{◌≡◌, ◌+◌, ◌-◌, ℕ, [], get_or, true, arith, ap, sym, subst}
 use Rattle.std.proofs.lemmas.List.{get_or_default}
-use Rattle.scr_plan.specs.Plan.{Plan, delivers}
+use Rattle.scr_plan.specs.Plan.{delivers}
 use Rattle.scr_wire.specs.Lane.{frame}
 use Rattle.scr_wire.specs.Spelling.{Spells, number_of}
-use Rattle.scr_replica.specs.declared.entry.Entry.{Entry}
 use Rattle.scr_replica.specs.Entries.{Knows}
 use Rattle.scr_replica.proofs.Passing.{on_ok, frame_to_own, AllKnow-delivered, AllKnow-undelivered}
 use Rattle.scr_replica.proofs.filling.pass_frame.Goals as goal

@@ -1,4 +1,4 @@
-use Rattle.std.proofs.Common.{◌≡◌, ◌<◌, ◌≤◌, ◌+◌, ◌^◌, ◌++◌, ℕ, Bool, List, [], Option, cond, length, get_or, option_to_list, arith, refl, sym, ap, subst, ◌∙◌}
+use Rattle.std.proofs.Common.{◌≡◌, ◌<◌, ◌≤◌, ◌+◌, ◌^◌, ◌++◌, ℕ, List, [], Option, cond, length, get_or, option_to_list, arith, refl, sym, ap, subst, ◌∙◌}
 use Rattle.std.specs.Prelude.{is_some}
 use Rattle.std.specs.Option.{option_map, option_copied}
 use Rattle.scr_base.specs.declared.row.Row.{Row}
@@ -6,7 +6,7 @@ use Rattle.scr_plan.specs.declared.counting.CoreCounts.{CoreCounts}
 use Rattle.scr_plan.specs.declared.given.Given.{Given}
 use Rattle.scr_plan.specs.Plan.{Plan, frame_count, plan_counts}
 use Rattle.scr_replica.specs.declared.entry.Entry.{Entry}
-use Rattle.scr_replica.specs.Entries.{row_in, is_delivered, entry_of, entries_up_to, AllFinal}
+use Rattle.scr_replica.specs.Entries.{row_in, is_delivered, entry_of, entries_up_to}
 use Rattle.scr_replica.specs.OneCore.{kept_row, kept_rows, course_up_to, course, entries}
 use Rattle.scr_replica.specs.Answers.{counts_up_to}
 use Rattle.scr_replica.proofs.Knowing.{length-entries}

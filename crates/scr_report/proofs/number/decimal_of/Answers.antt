@@ -11,9 +11,9 @@ returns-then-digits-eq48 c = λ number fits same.
 pub returns : goal.returns
 returns c =
     let no_zero : 1 < length c.args.digits.now → slice_index_or c.args.digits.now 0 0 ≡ 48 → ⊥ = λ long zero_first.
-        elim c.else-digits-gt1.branch [
-          | else-digits-gt1-via-then-digits-gt1+else-digits-eq48 w ↦ w.if-digits-eq48.false zero_first
-          | else-digits-gt1-via-else-digits-gt1 w ↦ omega arith
-        ] in
+    elim c.else-digits-gt1.branch [
+      | else-digits-gt1-via-then-digits-gt1+else-digits-eq48 w ↦ w.if-digits-eq48.false zero_first
+      | else-digits-gt1-via-else-digits-gt1 w ↦ omega arith
+    ] in
     rw c.ok.ensures.value
     (decimal-read c.args.digits.now c.args.greatest c.read_number.result (omega arith) c.requires no_zero c.read_number.ensures)

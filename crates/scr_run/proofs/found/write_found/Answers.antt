@@ -1,9 +1,10 @@
-use Rattle.std.proofs.Common.{rules, ◌≡◌, ◌⊎◌, ◌≤◌, ◌<◌, All, Err, length, ℕ, ◌+◌, ◌-◌, ◌*◌, ◌/◌, ◌%◌, Bool, true, false, nat_eq, nat_lt, List, [], ◌∷◌, ◌++◌, slice_index_or, slice_set, bit_and, bit_or, Fits, w8, w32, w64, Bor, MutBor}
-use Rattle.scr_base.specs.Causes.{Rose}
-use Rattle.scr_report.specs.Outcome.{report_text, totals_of}
-use Rattle.scr_run.specs.Ends.{EndsWriting}
+use Rattle.std.proofs.Common.{◌≡◌, ℕ, List, length, map, ap, ◌∙◌, sym, arith}
+use Rattle.std.specs.List.{range_with_len}
+use Rattle.std.proofs.lemmas.List.FromFn.{length-map-range_with_len}
+use Rattle.scr_report.specs.Outcome.{total_of}
 use Rattle.scr_run.proofs.found.write_found.Goals as goal
 
--- src/found.rt:28:5
 pub write_report-requires-clause-a_total_each : goal.write_report-requires-clause-a_total_each
-write_report-requires-clause-a_total_each g c = ?
+write_report-requires-clause-a_total_each g c =
+    ap length c.in_ok-report-inside.ensures ∙ length-map-range_with_len (total_of c.deref.result.now) 0 c.names.result
+    ∙ c.names.ensures ∙ sym (ap length c.in_ok-names.ensures)

@@ -5,4 +5,4 @@ use Rattle.scr_report.specs.Outcome.{total_of}
 use Rattle.scr_run.proofs.names.totals_of.Given as goal
 
 abbrev pub invariant-loop-code : goal.invariant-loop-code
-invariant-loop-code g l = l.totals.items ≡ map (total_of l.verdicts) (range_with_len 0 l.code)
+invariant-loop-code l = l.totals.items ≡ map (total_of l.verdicts) (range_with_len 0 l.code)

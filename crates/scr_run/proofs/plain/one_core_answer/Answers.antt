@@ -1,5 +1,6 @@
-use Rattle.std.proofs.Common.{◌≡◌, ◌++◌, ◌∷◌, [], List, All, length, refl, ◌∙◌, ap, arith, sym, subst}
+use Rattle.std.proofs.Common.{◌≡◌, ◌++◌, ◌∷◌, [], List, All, ◌<◌, length, refl, ◌∙◌, ap, arith, sym, subst}
 use Rattle.scr_plan.specs.declared.given.Given.{Given}
+use Rattle.scr_frame.specs.Fields.{fields}
 use Rattle.scr_pcap.specs.State.{ReaderState}
 use Rattle.scr_replica.specs.OneCore.{undivided}
 use Rattle.scr_replica.proofs.Undivided.{verdicts-none, verdicts-push, length-verdicts}
@@ -24,11 +25,12 @@ loop-core-preserved g c =
     let state = took.1 in
     let counted : c.next.new.self.taken ≡ c.in-Some.info.number = ap (λ (s : ReaderState). s.taken) state ∙ sym took.2 in
     let verdict_after = g.P.Program.verdict_after c.args.settings.now in
+    let row = g.P.Program.row_of c.args.settings.now (fields c.bytes.result.now) c.in-Some.info.time in
     record {
       taken = HasTaken-more (g.P.Program.row_of c.args.settings.now) _ _ _ _ _ _ _ _ _ _ _ _ was.taken c.bytes.ensures.bytes took.2 took.4
           c.next.ensures.format counted
           (λ rows holds number.
-              (c.in_ok-take.ensures.given rows holds.1 ∙ ap (λ (t : List Given). t ++ _ ∷ []) holds.0 ∙ sym (verdicts-push verdict_after rows _ _ number),
+              (c.in_ok-take.ensures.given rows holds.1 ∙ ap (λ (t : List Given). t ++ record { number = c.in-Some.info.number; verdict = verdict_after rows row } ∷ []) holds.0 ∙ sym (verdicts-push verdict_after rows row c.in-Some.info.number number),
               c.in_ok-take.ensures.stands rows holds.1));
       reading = ap (λ (s : ReaderState). s.progress) state ∙ was.reading;
       few = c.next.ensures.within;
@@ -48,4 +50,4 @@ returns-clause-named g c =
     let rows = rows_of (g.P.Program.row_of c.args.settings.now) taken.records in
     let names = length g.P.Program.verdict_names in
     subst (λ (given : List Given). All (λ given. given.verdict.0 < names) given) (sym taken.holds.0)
-    (verdicts-named (g.P.Program.verdict_after c.args.settings.now) (undivided rows) names (g.P.Program.is_named c.args.settings.now))
+    (verdicts-named (g.P.Program.verdict_after c.args.settings.now) (undivided rows) names (g.met.P.Program.is_named c.args.settings.now))

@@ -1,5 +1,5 @@
 -- So many were lost so far, and no more than there is to lose.
-use Rattle.std.proofs.Common.{◌≡◌, ◌+◌, ◌-◌, ◌≤◌, ℕ, length, max, ◌++◌, replicate, vec_len}
+use Rattle.std.proofs.Common.{◌≡◌, ◌-◌, ◌≤◌, length, max, ◌++◌, replicate, vec_len}
 use Rattle.scr_replica.specs.declared.entry.Entry.TheVariants.{Lost}
 use Rattle.scr_replica.proofs.known.Known.lose.Given as goal
 

@@ -1,8 +1,6 @@
-use Rattle.std.proofs.Common.{◌≡◌, ◌+◌, ◌-◌, ◌<◌, ◌≤◌, ℕ, List, [], ◌∷◌, ◌++◌, length, arith, refl, ap, sym, subst, ◌∙◌}
+use Rattle.std.proofs.Common.{◌≡◌, ◌+◌, ◌-◌, ◌<◌, ℕ, [], ◌∷◌, ◌++◌, length, arith, refl, ap, sym, subst, ◌∙◌}
 use Rattle.std.proofs.lemmas.List.{length_push}
 use Rattle.scr_wire.specs.Spelling.{number_of, rows_of}
-use Rattle.scr_replica.specs.declared.entry.Entry.{Entry}
-use Rattle.scr_replica.specs.declared.entry.Entry.TheVariants.{Delivered, Carried}
 use Rattle.scr_replica.specs.Entries.{entry_of, with_lost}
 use Rattle.scr_replica.proofs.Lost.{length-with_lost}
 use Rattle.scr_replica.proofs.Knowing.{IsFinal, final_push}

@@ -10,12 +10,14 @@ use Rattle.scr_report.proofs.names.Names.verdict.Goals as goal
 first-here : (names others : List (List ℕ)) (text : List ℕ) (place : ℕ) → others ≡ names → place < length others → get_or others place [] ≡ text
     → ((k : ℕ) → k < place → get_or others k [] ≢ text) → IsFirstOfName names place × (name_at names place ≡ text)
 first-here names others text place are below here before =
-    let here_too : name_at names place ≡ text = ap (λ (ns : List (List ℕ)). name_at ns place) (sym are) ∙ here in
-    (record {
-      within = omega (arith, ap length are);
-      first = λ earlier front same.
-          before earlier front (ap (λ (ns : List (List ℕ)). name_at ns earlier) are ∙ same ∙ here_too);
-    }, here_too)
+    let here_too : name_at names place ≡ text = ap (λ (ns : List (List ℕ)). name_at ns place) (sym are) ∙ here in (
+      record {
+        within = omega (arith, ap length are);
+        first = λ earlier front same.
+            before earlier front (ap (λ (ns : List (List ℕ)). name_at ns earlier) are ∙ same ∙ here_too);
+      },
+      here_too,
+    )
 
 pub returns-then-eq : goal.returns-then-eq
 returns-then-eq c =
