@@ -94,6 +94,7 @@ fn report_on(alloc: Global, plan: &RunPlan, gathered: Gathered) -> Report
     ensures cores { result.cores ≡ gathered.cores }
     ensures flows { result.flows ≡ gathered.flows }
 {
+    let frames = plan.rows().len() as u32;
     let kept = kept_of(plan, &gathered.cores);
     let Gathered {
         verdicts,
@@ -103,7 +104,7 @@ fn report_on(alloc: Global, plan: &RunPlan, gathered: Gathered) -> Report
     Report {
         delivered: verdicts.len() as u32,
         verdicts,
-        frames: plan.rows().len() as u32,
+        frames,
         kept,
         cores,
         flows,

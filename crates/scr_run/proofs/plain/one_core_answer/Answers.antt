@@ -49,5 +49,6 @@ returns-clause-named g c =
     let taken = c.loop-core.invariant.taken in
     let rows = rows_of (g.P.Program.row_of c.args.settings.now) taken.records in
     let names = length g.P.Program.verdict_names in
+    let laws = g.met.P.Program g.world.𝓛 g.world.𝓜 g.world.𝓡 ((λ s x. x), (λ x. x), (λ x. x), λ x. x) in
     subst (λ (given : List Given). All (λ given. given.verdict.0 < names) given) (sym taken.holds.0)
-    (verdicts-named (g.P.Program.verdict_after c.args.settings.now) (undivided rows) names (g.met.P.Program.is_named c.args.settings.now))
+    (verdicts-named (g.P.Program.verdict_after c.args.settings.now) (undivided rows) names (laws.is_named c.args.settings.now))
