@@ -3,7 +3,6 @@ use Rattle.std.proofs.Common.{◌≡◌, ℕ, List, Option, Some, None, Result, 
 use Rattle.std.specs.Io.KnownBytes.{Appends, IsAtEnd}
 use Rattle.scr_base.specs.Streams.{AppendsPrefix}
 use Rattle.scr_base.specs.declared.row.Row.{Row}
-use Rattle.scr_frame.specs.declared.parsed.Parsed.{Parsed}
 use Rattle.scr_pcap.specs.Records.{Record}
 use Rattle.scr_pcap.specs.Reading.{IsReading}
 use Rattle.scr_plan.specs.declared.counting.CoreCounts.{CoreCounts}
@@ -13,7 +12,6 @@ use Rattle.scr_plan.specs.Plan.{Plan}
 use Rattle.scr_report.specs.Outcome.{Outcome, report_of, totals_of}
 use Rattle.scr_run.specs.declared.status.Status.{Status}
 use Rattle.scr_run.specs.declared.status.Status.TheVariants.{Done, Words, Capture, ReadFault, WriteFault, OutOfMemory, TooMany}
-use Rattle.scr_run.specs.RunReport.{rows_of}
 use Rattle.scr_run.specs.Ends.{Ends, EndsWriting, WritesReport, WritesFront, ended}
 
 -- an outcome by its parts, once its totals are counted
@@ -34,12 +32,13 @@ module _ (text : List Record → List ℕ) (report : List ℕ) where
   abbrev pub IsReportOf : Option (List ℕ) → Type 0
   IsReportOf left = IfSome left (λ bytes. (records : List Record) × IsReading bytes (Ok records) × (report ≡ text records))
 
-  pub IsReportOf-rows : (row_of : Parsed → ℕ → Row) (rows : List Row) (left : Option (List ℕ))
-      → IfSome left (λ bytes. (records : List Record) × IsReading bytes (Ok records) × (rows ≡ rows_of row_of records))
-      → ((records : List Record) → rows ≡ rows_of row_of records → report ≡ text records)
+  -- where some fact of the records tells their report
+  pub IsReportOf-by : (Holds : List Record → Type 0) (left : Option (List ℕ))
+      → IfSome left (λ bytes. (records : List Record) × IsReading bytes (Ok records) × Holds records)
+      → ((records : List Record) → Holds records → report ≡ text records)
       → IsReportOf left
-  IsReportOf-rows row_of rows None read same = tt
-  IsReportOf-rows row_of rows (Some bytes) (records, reading, are) same = (records, reading, same records are)
+  IsReportOf-by Holds None read same = tt
+  IsReportOf-by Holds (Some bytes) (records, reading, holds) same = (records, reading, same records holds)
 
   writes : (left before now : Option (List ℕ)) → IsReportOf left → Appends before now report → WritesReport text left before now
   writes None before now is gained = tt

@@ -9,7 +9,7 @@ ghost use Rattle.scr_pcap.specs.declared.error.CaptureError.{CaptureError};
 ghost use Rattle.scr_replica.specs.OneCore.{verdicts, undivided};
 ghost use Rattle.scr_run.specs.Rules.{ruled_by};
 ghost use Rattle.scr_run.specs.RunReport.{plain_text, rows_of};
-ghost use Rattle.scr_run.specs.Ends.{Ends, StopsReading, status_of, IsUnlessOutOfMemory};
+ghost use Rattle.scr_run.specs.Ends.{Ends, ended, StopsReading, status_of, IsUnlessOutOfMemory};
 
 use crate::found::write_found;
 use crate::status::Status;
@@ -50,11 +50,27 @@ pub fn plain_run<P: Program, S: Source, O: Sink>(
     ensures later_out { O.faults out.old ≤ O.faults out.new }
     ensures later_out_wants { O.wants out.old ≤ O.wants out.new }
 {
-    let core = match one_core_answer::<P, S>(alloc, settings, capture) {
-        Ok(core) => core,
-        Err(status) => return status,
-    };
-    let OneCore { state, given } = core;
+    match run_whole::<P, S, O>(alloc, settings, capture, out) {
+        Ok(()) => Status::Done,
+        Err(status) => status,
+    }
+}
+
+fn run_whole<P: Program, S: Source, O: Sink>(
+    alloc: Global,
+    settings: &P::Settings,
+    capture: &mut S,
+    out: &mut O,
+) -> Result<(), Status>
+    ensures ends { Ends (plain_text (ruled_by (P.row_of settings.now) (P.verdict_after settings.now) (P.count_after settings.now) P.verdict_names))
+        S.left S.faults O.written O.faults capture.old capture.new out.old out.new (ended result) }
+    ensures late { (out.new ≡ out.old) ⊎ IsAtEnd (S.left capture.new) }
+    ensures wanting { result ≡ Err Status.OutOfMemory → (out.new ≡ out.old) ⊎ Rose (O.wants out.old) (O.wants out.new) }
+    ensures later_capture { S.faults capture.old ≤ S.faults capture.new }
+    ensures later_out { O.faults out.old ≤ O.faults out.new }
+    ensures later_out_wants { O.wants out.old ≤ O.wants out.new }
+{
+    let OneCore { state, given } = one_core_answer::<P, S>(alloc, settings, capture)?;
     let frames = given.len() as u32;
     let report = Report {
         verdicts: given,
@@ -65,10 +81,7 @@ pub fn plain_run<P: Program, S: Source, O: Sink>(
         flows: P::flows(settings, &state),
         totals: Vec::new(alloc),
     };
-    match write_found::<P, O>(alloc, report, true, out) {
-        Ok(()) => Status::Done,
-        Err(status) => status,
-    }
+    write_found::<P, O>(alloc, report, true, out)
 }
 
 // A program at its work: its state, and the verdicts that it has given.
@@ -85,8 +98,8 @@ fn one_core_answer<P: Program, S: Source>(
     capture: &mut S,
 ) -> Result<OneCore<P::State>, Status>
     ensures answer { IfOk result (λ core. IfSome (S.left capture.old) (λ bytes. (records : List Record)
-        × IsReading bytes (Ok records) × (core.given.items ≡ verdicts (P.verdict_after settings.now) (undivided (rows_of (P.row_of settings.now) records)))
-        × P.StandsFor settings.now core.state (rows_of (P.row_of settings.now) records))) }
+        × IsReading bytes (Ok records) × ((core.given.items ≡ verdicts (P.verdict_after settings.now) (undivided (rows_of (P.row_of settings.now) records)))
+        × P.StandsFor settings.now core.state (rows_of (P.row_of settings.now) records)))) }
     ensures named { IfOk result (λ core. All (λ given. given.verdict.0 < length P.verdict_names) core.given.items) }
     ensures few { IfOk result (λ core. length core.given.items ≤ 1000000) }
     ensures end { OnOk result (IsAtEnd (S.left capture.new)) }

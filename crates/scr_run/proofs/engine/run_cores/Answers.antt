@@ -6,7 +6,7 @@ use Rattle.scr_replica.proofs.Counted.{length-verdicts-delivered, verdicts-named
 use Rattle.scr_report.specs.Outcome.{Outcome, report_text, totals_of}
 use Rattle.scr_run.specs.Rules.{Rules, ruled_by}
 use Rattle.scr_run.specs.RunReport.{rows_of, outcome_of, shaped_text}
-use Rattle.scr_run.proofs.Written.{counted-outcome, plan-of, IsReportOf-rows, Ends-writing}
+use Rattle.scr_run.proofs.Written.{counted-outcome, plan-of, IsReportOf-by, Ends-writing}
 use Rattle.scr_run.proofs.engine.run_cores.Goals as goal
 
 pub report_on-requires-clause-delivered : goal.report_on-requires-clause-delivered
@@ -31,8 +31,8 @@ returns-clause-ends g c =
     let outcome = c.report_on.result in
     let counted = counted-outcome names outcome _ _ _ _ _ _ (c.report_on.ensures.verdicts ∙ c.in_ok-gathered.ensures.verdicts) c.report_on.ensures.frames
         c.report_on.ensures.delivered c.report_on.ensures.kept (c.report_on.ensures.cores ∙ c.in_ok-gathered.ensures.cores) (c.report_on.ensures.flows ∙ c.in_ok-gathered.ensures.flows) in
-    let is = IsReportOf-rows (shaped_text rules shape c.args.with_verdicts) (report_text names (record outcome { totals = totals_of names outcome.verdicts }) c.args.with_verdicts)
-        row_of c.in_ok-rows.rows.items (g.S.Source.left c.args.capture.now) c.in_ok-rows.ensures.rows
+    let is = IsReportOf-by (shaped_text rules shape c.args.with_verdicts) (report_text names (record outcome { totals = totals_of names outcome.verdicts }) c.args.with_verdicts)
+        (λ records. c.in_ok-rows.rows.items ≡ rows_of row_of records) (g.S.Source.left c.args.capture.now) c.in_ok-rows.ensures.rows
         (λ records are. ap (λ (o : Outcome). report_text names o c.args.with_verdicts)
             (counted ∙ ap (λ (p : Plan). outcome_of rules p) (plan-of plan (rows_of row_of records) shape.cores shape.history shape.drops
                 (c.make-plan.ensures.rows ∙ are) c.make-plan.ensures.cores c.make-plan.ensures.history c.make-plan.ensures.drops))) in
