@@ -2,6 +2,7 @@ pub mod Progress
 pub mod Ending
 pub mod Counts
 pub mod Written
+pub mod Loading
 pub mod GivenValues
 pub mod DropListFaults
 pub mod OperandFaults
