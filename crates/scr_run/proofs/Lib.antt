@@ -3,6 +3,7 @@ pub mod Ending
 pub mod Counts
 pub mod Written
 pub mod Loading
+pub mod Main
 pub mod GivenValues
 pub mod DropListFaults
 pub mod OperandFaults
