@@ -22,6 +22,6 @@ module _ (plan : Plan) (is : IsPlan plan) where
     pub first-core : (none : CoreCounts) → (get_or cores 0 none).skipped + kept_count plan.drops plan.history (frame_count plan) ≡ frame_count plan
     first-core none =
         let first : get_or cores 0 none ≡ plan_counts plan 0 =
-            ap (λ (cs : List CoreCounts). get_or cs 0 none) are ∙ get_or-map-range_with_len (plan_counts plan) 0 plan.cores 0 0 none is.a_core refl in
+        ap (λ (cs : List CoreCounts). get_or cs 0 none) are ∙ get_or-map-range_with_len (plan_counts plan) 0 plan.cores 0 0 none is.a_core refl in
         ap (λ (counts : CoreCounts). counts.skipped + kept_count plan.drops plan.history (frame_count plan)) first
         ∙ skipped-total plan.drops plan.cores plan.history (frame_count plan) 0

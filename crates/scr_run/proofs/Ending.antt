@@ -26,7 +26,7 @@ module _ (text : List Record → List ℕ) {S O : Type 0} (left : S → Option (
       inl (sym ends.0.0 ∙ ap status_of e)
   malformed old new out_old out_new (TooMany limit) bytes fault same ends told reading calm =
       let has : IsReading bytes (Err (capture.TooMany limit)) = subst (λ (l : Option (List ℕ)). HasFault l (capture.TooMany limit))
-          told ends.0.1 in
+      told ends.0.1 in
       let e : capture.TooMany limit ≡ fault = cc (same (Err (capture.TooMany limit)) (Err fault) has reading) in
       inl (ap status_of e)
   malformed old new out_old out_new ReadFault bytes fault same ends told reading calm = absurd (calm ends.0)

@@ -47,7 +47,7 @@ module _ (row_of : Parsed → ℕ → Row) where
       let rows = rows_of row_of so_far.records in
       let row_is : row_of (fields frame) r.time ≡ row_of (fields r.content) r.time = ap (λ (b : List ℕ). row_of (fields b) r.time) bytes in
       let rows_are : rows ++ row_of (fields frame) r.time ∷ [] ≡ rows_of row_of (so_far.records ++ r ∷ []) =
-          ap (λ (w : Row). rows ++ w ∷ []) row_is ∙ sym (map_push (λ r. row_of (fields r.content) r.time) so_far.records r) in
+      ap (λ (w : Row). rows ++ w ∷ []) row_is ∙ sym (map_push (λ r. row_of (fields r.content) r.time) so_far.records r) in
       record {
         begun = so_far.begun;
         header = subst (λ (f : Format). IfSome old (λ bytes. (header_of bytes ≡ Ok f) × (so_far.begun ≡ Some (drop 24 bytes)))) (sym e_format) so_far.header;

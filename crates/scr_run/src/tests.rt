@@ -288,7 +288,14 @@ fn leaves_the_capture_unread_at_refused_words(rt: HostRuntime) -> Result<(), Fai
 fn reports_what_cores_gather(rt: HostRuntime) -> Result<(), Fail> {
     let cases: [(&[&str], &str); 5] = [
         (
-            &["run", "program=ddos", "threshold=2", "cores=2", "history=0", "drop=2"],
+            &[
+                "run",
+                "program=ddos",
+                "threshold=2",
+                "cores=2",
+                "history=0",
+                "drop=2",
+            ],
             "1 PASS\n3 PASS\n4 DROP\n\
              frames 4 delivered 3 kept 3\n\
              core 0 delivered 2 carried 2 recovered 1 skipped 1\n\
@@ -297,7 +304,15 @@ fn reports_what_cores_gather(rt: HostRuntime) -> Result<(), Fail> {
              verdict PASS 2\nverdict DROP 1\nverdict OTHER 0\n",
         ),
         (
-            &["run", "program=ddos", "threshold=2", "cores=2", "history=1", "drop=2", "threads=no"],
+            &[
+                "run",
+                "program=ddos",
+                "threshold=2",
+                "cores=2",
+                "history=1",
+                "drop=2",
+                "threads=no",
+            ],
             "1 PASS\n3 DROP\n4 DROP\n\
              frames 4 delivered 3 kept 4\n\
              core 0 delivered 2 carried 3 recovered 1 skipped 0\n\

@@ -30,10 +30,10 @@ returns-clause-ends g c =
     let plan = c.make-plan.result in
     let outcome = c.report_on.result in
     let counted = counted-outcome names outcome _ _ _ _ _ _ (c.report_on.ensures.verdicts ∙ c.in_ok-gathered.ensures.verdicts) c.report_on.ensures.frames
-        c.report_on.ensures.delivered c.report_on.ensures.kept (c.report_on.ensures.cores ∙ c.in_ok-gathered.ensures.cores) (c.report_on.ensures.flows ∙ c.in_ok-gathered.ensures.flows) in
+    c.report_on.ensures.delivered c.report_on.ensures.kept (c.report_on.ensures.cores ∙ c.in_ok-gathered.ensures.cores) (c.report_on.ensures.flows ∙ c.in_ok-gathered.ensures.flows) in
     let is = IsReportOf-by (shaped_text rules shape c.args.with_verdicts) (report_text names (record outcome { totals = totals_of names outcome.verdicts }) c.args.with_verdicts)
-        (λ records. c.in_ok-rows.rows.items ≡ rows_of row_of records) (g.S.Source.left c.args.capture.now) c.in_ok-rows.ensures.rows
-        (λ records are. ap (λ (o : Outcome). report_text names o c.args.with_verdicts)
-            (counted ∙ ap (λ (p : Plan). outcome_of rules p) (plan-of plan (rows_of row_of records) shape.cores shape.history shape.drops
-                (c.make-plan.ensures.rows ∙ are) c.make-plan.ensures.cores c.make-plan.ensures.history c.make-plan.ensures.drops))) in
+    (λ records. c.in_ok-rows.rows.items ≡ rows_of row_of records) (g.S.Source.left c.args.capture.now) c.in_ok-rows.ensures.rows
+    (λ records are. ap (λ (o : Outcome). report_text names o c.args.with_verdicts)
+    (counted ∙ ap (λ (p : Plan). outcome_of rules p) (plan-of plan (rows_of row_of records) shape.cores shape.history shape.drops
+    (c.make-plan.ensures.rows ∙ are) c.make-plan.ensures.cores c.make-plan.ensures.history c.make-plan.ensures.drops))) in
     Ends-writing _ _ g.S.Source.left g.S.Source.faults g.O.Sink.written g.O.Sink.faults _ _ _ _ c.write_found.result is c.in_ok-rows.ensures.end c.write_found.ensures.ends

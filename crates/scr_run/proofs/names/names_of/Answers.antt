@@ -22,11 +22,11 @@ loop-code-preserved g c =
     let all = g.P.Program.verdict_names in
     let code = c.loop-code.code in
     elim c.match-name_of.branch [
-      in-Some+in_ok-add w ↦
-        let is = rw w.in-Some.is at c.name_of.ensures in
-        w.names-is ∙ w.in_ok-add.ensures.added ∙ ap (λ (names : List (List ℕ)). names ++ w.in-Some.name.now ∷ []) c.loop-code.invariant
-        ∙ sym (take-more all code w.in-Some.name.now (sym is))
-    | in_default w ↦
-        let is = rw w.in_default.is at c.name_of.ensures in
-        absurd (there all code (omega (arith, c.loop-code-test.true, c.names-code-end.ensures)) (sym is))
+      | in-Some+in_ok-add w ↦
+          let is = rw w.in-Some.is at c.name_of.ensures in
+          w.names-is ∙ w.in_ok-add.ensures.added ∙ ap (λ (names : List (List ℕ)). names ++ w.in-Some.name.now ∷ []) c.loop-code.invariant
+          ∙ sym (take-more all code w.in-Some.name.now (sym is))
+      | in_default w ↦
+          let is = rw w.in_default.is at c.name_of.ensures in
+          absurd (there all code (omega (arith, c.loop-code-test.true, c.names-code-end.ensures)) (sym is))
     ]

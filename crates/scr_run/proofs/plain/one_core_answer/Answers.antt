@@ -29,9 +29,10 @@ loop-core-preserved g c =
     record {
       taken = HasTaken-more (g.P.Program.row_of c.args.settings.now) _ _ _ _ _ _ _ _ _ _ _ _ was.taken c.bytes.ensures.bytes took.2 took.4
           c.next.ensures.format counted
-          (λ rows holds number.
-              (c.in_ok-take.ensures.given rows holds.1 ∙ ap (λ (t : List Given). t ++ record { number = c.in-Some.info.number; verdict = verdict_after rows row } ∷ []) holds.0 ∙ sym (verdicts-push verdict_after rows row c.in-Some.info.number number),
-              c.in_ok-take.ensures.stands rows holds.1));
+          (λ rows holds number. (
+            c.in_ok-take.ensures.given rows holds.1 ∙ ap (λ (t : List Given). t ++ record { number = c.in-Some.info.number; verdict = verdict_after rows row } ∷ []) holds.0 ∙ sym (verdicts-push verdict_after rows row c.in-Some.info.number number),
+            c.in_ok-take.ensures.stands rows holds.1,
+          ));
       reading = ap (λ (s : ReaderState). s.progress) state ∙ was.reading;
       few = c.next.ensures.within;
       faults = omega (arith, was.faults, c.next.ensures.later);
@@ -41,8 +42,14 @@ pub returns-clause-few : goal.returns-clause-few
 returns-clause-few g c =
     let taken = c.loop-core.invariant.taken in
     let rows = rows_of (g.P.Program.row_of c.args.settings.now) taken.records in
-    omega (arith, ap length taken.holds.0, length-verdicts (g.P.Program.verdict_after c.args.settings.now) rows,
-    length-rows_of (g.P.Program.row_of c.args.settings.now) taken.records, taken.count, c.loop-core.invariant.few)
+    omega (
+      arith,
+      ap length taken.holds.0,
+      length-verdicts (g.P.Program.verdict_after c.args.settings.now) rows,
+      length-rows_of (g.P.Program.row_of c.args.settings.now) taken.records,
+      taken.count,
+      c.loop-core.invariant.few,
+    )
 
 pub returns-clause-named : goal.returns-clause-named
 returns-clause-named g c =

@@ -28,12 +28,12 @@ returns-clause-ends g c =
       totals = totals_of names core.given.items;
     } in
     let is = IsReportOf-by (plain_text rules) (report_text names outcome true)
-        (λ records. (core.given.items ≡ verdicts verdict_after (undivided (rows_of row_of records))) × g.P.Program.StandsFor settings core.state (rows_of row_of records))
-        (g.S.Source.left c.args.capture.now) c.in_ok-state.ensures.answer
-        (λ records holds.
-            let rows = rows_of row_of records in
-            let counted : frames ≡ length rows = omega (arith, c.len-frames.ensures, ap length holds.0, length-verdicts verdict_after rows) in
-            ap (λ (o : Outcome). report_text names o true)
-            (counted-outcome names outcome _ _ _ _ _ _ holds.0 counted (counted ∙ sym (delivered_count-undivided (length rows)))
-            (counted ∙ sym (kept_count-undivided 0 (length rows))) c.new.ensures.items (c.flows.ensures rows holds.1 ∙ sym (entries-undivided count_after rows)))) in
+    (λ records. (core.given.items ≡ verdicts verdict_after (undivided (rows_of row_of records))) × g.P.Program.StandsFor settings core.state (rows_of row_of records))
+    (g.S.Source.left c.args.capture.now) c.in_ok-state.ensures.answer
+    (λ records holds.
+    let rows = rows_of row_of records in
+    let counted : frames ≡ length rows = omega (arith, c.len-frames.ensures, ap length holds.0, length-verdicts verdict_after rows) in
+    ap (λ (o : Outcome). report_text names o true)
+    (counted-outcome names outcome _ _ _ _ _ _ holds.0 counted (counted ∙ sym (delivered_count-undivided (length rows)))
+    (counted ∙ sym (kept_count-undivided 0 (length rows))) c.new.ensures.items (c.flows.ensures rows holds.1 ∙ sym (entries-undivided count_after rows)))) in
     Ends-writing _ _ g.S.Source.left g.S.Source.faults g.O.Sink.written g.O.Sink.faults _ _ _ _ c.write_found.result is c.in_ok-state.ensures.end c.write_found.ensures.ends
