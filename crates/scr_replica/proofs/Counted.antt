@@ -1,5 +1,5 @@
 -- How many verdicts there are, and that each has a name.
-use Rattle.std.proofs.Common.{◌≡◌, ℕ, zero, suc, ◌+◌, ◌-◌, ◌<◌, ◌≤◌, Bool, true, false, List, [], ◌∷◌, ◌++◌, All, length, Option, Some, None, IfSome, refl, sym, ap, subst, ◌∙◌, arith, filter_map, count_by, if◌then◌else◌, get_or}
+use Rattle.std.proofs.Common.{◌≡◌, ℕ, zero, suc, ◌+◌, ◌-◌, ◌<◌, ◌≤◌, Bool, true, false, List, [], ◌∷◌, All, length, Option, Some, None, IfSome, refl, sym, ap, ◌∙◌, arith, filter_map, count_by, if◌then◌else◌}
 use Rattle.std.specs.List.{range_with_len, slice_get, cons_option}
 use Rattle.std.specs.Option.{option_map}
 use Rattle.std.proofs.lemmas.List.{length-append}
@@ -7,11 +7,10 @@ use Rattle.std.proofs.lemmas.List.Elements.{filter_map-append, All-nil, All-cons
 use Rattle.scr_base.specs.declared.row.Row.{Row}
 use Rattle.scr_base.specs.declared.row.Verdict.{Verdict}
 use Rattle.scr_plan.specs.declared.given.Given.{Given}
-use Rattle.scr_plan.specs.declared.drops.DropRange.{DropRange}
 use Rattle.scr_plan.specs.Delivered.{delivered}
 use Rattle.scr_plan.specs.Kept.{kept}
 use Rattle.scr_plan.specs.Counts.{delivered_count, kept_count}
-use Rattle.scr_plan.specs.Plan.{Plan, frame_count, row_of, delivers}
+use Rattle.scr_plan.specs.Plan.{Plan, frame_count, delivers}
 use Rattle.scr_plan.proofs.FromOne.{range-suc, count-suc}
 use Rattle.scr_plan.proofs.Packets.{delivered-no_drops, kept-no_drops}
 use Rattle.scr_replica.specs.OneCore.{given_with, given_at, verdicts}

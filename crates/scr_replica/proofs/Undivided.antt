@@ -1,14 +1,13 @@
 -- A run where one core is given every frame: each packet is kept, and comes after all packets below it.
-use Rattle.std.proofs.Common.{◌≡◌, ℕ, zero, suc, ◌+◌, ◌-◌, ◌≤◌, true, List, [], ◌∷◌, ◌++◌, length, Option, Some, None, refl, sym, ap, subst, ◌∙◌, arith, filter_map, if◌then◌else◌}
+use Rattle.std.proofs.Common.{◌≡◌, ℕ, ◌+◌, ◌-◌, ◌≤◌, true, List, [], ◌∷◌, ◌++◌, length, Option, Some, refl, sym, ap, subst, ◌∙◌, arith, filter_map}
 use Rattle.std.specs.List.{range_with_len, slice_get}
-use Rattle.std.specs.Option.{option_map}
 use Rattle.std.proofs.lemmas.List.{append_assoc, append-nil, length-append}
 use Rattle.scr_base.specs.declared.row.Row.{Row}
 use Rattle.scr_base.specs.declared.row.Verdict.{Verdict}
 use Rattle.scr_plan.specs.declared.given.Given.{Given}
-use Rattle.scr_plan.specs.Plan.{Plan, frame_count, row_of, delivers, keeps}
+use Rattle.scr_plan.specs.Plan.{row_of, delivers, keeps}
 use Rattle.scr_plan.proofs.Packets.{delivered-no_drops, kept-no_drops}
-use Rattle.scr_replica.specs.OneCore.{undivided, kept_row, kept_rows, given_with, given_at, verdicts, entries}
+use Rattle.scr_replica.specs.OneCore.{undivided, kept_row, kept_rows, given_at, verdicts, entries}
 
 -- what `g` gives of each row and of those before it
 abbrev pub gathered : {X : Type 0} → (List Row → Row → X) → (front rows : List Row) → List X
@@ -29,7 +28,7 @@ numbered f g all front (row ∷ rows) rest parts at =
     let moved : all ≡ (front ++ row ∷ []) ++ (rows ++ rest) = parts ∙ sym (append_assoc front (row ∷ []) (rows ++ rest)) in
     let next : length (front ++ row ∷ []) + 1 ≡ length front + 1 + 1 = omega (arith, length-append front (row ∷ [])) in
     let later = subst (λ (n : ℕ). filter_map f (range_with_len n (length rows)) ≡ gathered g (front ++ row ∷ []) rows) next
-        (numbered f g all (front ++ row ∷ []) rows rest moved at) in
+    (numbered f g all (front ++ row ∷ []) rows rest moved at) in
     rw here (ap (λ (t : List _). g front row ∷ t) later)
 
 -- the row at the place behind others
@@ -51,9 +50,9 @@ unfolding kept_rows
 kept_rows-front front rest =
     numbered (kept_row (undivided (front ++ rest))) (λ _ row. row) (front ++ rest) [] front rest refl
     (λ a row b parts.
-        let kept : keeps (undivided (front ++ rest)) (length a + 1) ≡ true =
-            kept-no_drops 0 (length (front ++ rest)) (length a + 1) (omega arith) (rw parts (count_of a row b)) in
-        rw kept (rw parts (place_of a row b)))
+    let kept : keeps (undivided (front ++ rest)) (length a + 1) ≡ true =
+    kept-no_drops 0 (length (front ++ rest)) (length a + 1) (omega arith) (rw parts (count_of a row b)) in
+    rw kept (rw parts (place_of a row b)))
     ∙ gathered-rows [] front
 
 module _ (verdict_after : List Row → Row → Verdict) where
@@ -66,12 +65,12 @@ module _ (verdict_after : List Row → Row → Verdict) where
   unfolding verdicts
   verdicts-undivided rows = numbered (given_at verdict_after (undivided rows)) given_behind rows [] rows [] (sym (append-nil rows))
       (λ a row b parts.
-          let sent : delivers (undivided rows) (length a + 1) ≡ true =
-              delivered-no_drops (length rows) (length a + 1) (omega arith) (rw parts (count_of a row b)) in
-          let number : length a + 1 - 1 ≡ length a = omega arith in
-          let before : kept_rows (undivided rows) (length a + 1 - 1) ≡ a = rw (number, parts) (kept_rows-front a (row ∷ b)) in
-          let is_row : row_of (undivided rows) (length a + 1) ≡ Some row = rw parts (place_of a row b) in
-          rw (sent, is_row, before) refl)
+      let sent : delivers (undivided rows) (length a + 1) ≡ true =
+      delivered-no_drops (length rows) (length a + 1) (omega arith) (rw parts (count_of a row b)) in
+      let number : length a + 1 - 1 ≡ length a = omega arith in
+      let before : kept_rows (undivided rows) (length a + 1 - 1) ≡ a = rw (number, parts) (kept_rows-front a (row ∷ b)) in
+      let is_row : row_of (undivided rows) (length a + 1) ≡ Some row = rw parts (place_of a row b) in
+      rw (sent, is_row, before) refl)
 
   -- one row more
   gathered-push : (front rows : List Row) (row : Row)

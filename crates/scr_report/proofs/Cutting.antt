@@ -1,8 +1,7 @@
 -- The lines of a text: the first one, and those of a text that was made of lines.
-use Rattle.std.proofs.Common.{◌≡◌, ℕ, suc, ◌+◌, ◌<◌, ◌≤◌, List, [], ◌∷◌, ◌++◌, length, get_or, take, drop, Bool, true, false, cond, not, ◌||◌, ltb, eqb, Option, Some, None, All, min, ◌==◌, arith, refl, sym, ap, ◌∙◌, append_assoc, inl, inr}
+use Rattle.std.proofs.Common.{◌≡◌, ℕ, suc, ◌+◌, ◌<◌, ◌≤◌, List, [], ◌∷◌, ◌++◌, length, get_or, take, drop, Bool, true, false, cond, not, ltb, eqb, Option, Some, None, All, min, ◌==◌, arith, refl, sym, ap, ◌∙◌}
 use Rattle.std.specs.List.{concat, list_any, onto_first, position_or_len}
-use Rattle.std.proofs.lemmas.Bool.{or_parts, or_from, cases_lt, ltb-true, ltb-false, eqb-true}
-use Rattle.std.proofs.lemmas.List.{take_at, drop_at}
+use Rattle.std.proofs.lemmas.Bool.{or_parts, ltb-true, ltb-false, eqb-true}
 use Rattle.std.proofs.lemmas.List.Elements.{All-head, All-tail}
 use Rattle.scr_report.specs.Grammar.{lines_in}
 use Rattle.scr_report.specs.Parts.{first_line}

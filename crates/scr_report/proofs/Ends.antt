@@ -1,5 +1,5 @@
 -- Where a reader stops behind the verdicts, the cores, some totals and all totals.
-use Rattle.std.proofs.Common.{◌≡◌, ◌≢◌, ℕ, ◌+◌, ◌-◌, ◌<◌, ◌≤◌, ◌^◌, List, [], ◌∷◌, ◌++◌, All, length, map, drop, get_or, Result, Ok, Err, arith, refl, sym, ap, ◌∙◌, subst, append_assoc, length-append, zero-add}
+use Rattle.std.proofs.Common.{◌≡◌, ◌≢◌, ℕ, ◌+◌, ◌<◌, ◌^◌, List, [], ◌∷◌, ◌++◌, All, length, map, drop, get_or, Err, arith, sym, ap, ◌∙◌, subst, append_assoc, length-append, zero-add}
 use Rattle.std.specs.List.{zip, enumerate_from}
 use Rattle.std.proofs.lemmas.List.{append-nil, drop_more, drop_all}
 use Rattle.std.proofs.lemmas.List.Elements.{All-head, All-nil}
@@ -9,10 +9,10 @@ use Rattle.scr_report.specs.declared.report.ReportError.{ReportError}
 use Rattle.scr_report.specs.declared.report.ReportError.TheVariants.{Line, Ended, OutOfMemory}
 use Rattle.scr_report.specs.Text.{name_at, verdict_line, frames_line, core_line, flows_line, total_line}
 use Rattle.scr_report.specs.Outcome.{Outcome, counter_lines, report_lines}
-use Rattle.scr_report.specs.Grammar.{lines_in, MayFollow, FollowOn, AreCounts, IsReadable, Begins, Spells, ReadsAs}
+use Rattle.scr_report.specs.Grammar.{lines_in, MayFollow, FollowOn, AreCounts, IsReadable, Spells, ReadsAs}
 use Rattle.scr_report.specs.Parts.{Cursor, GoesPast, first_line, refusal_at, last_number, ReadsVerdicts, ReadsFrames, LacksFrames, ReadsCores, ReadsFlows, LacksFlows, ReadsTotals, LacksTotal}
 use Rattle.scr_report.proofs.Stages.{GoesPast-then}
-use Rattle.scr_report.proofs.Refusals.{GoesOn, goes-on, CoresGoOn, AreRead, AreTotals, has-cores, has-totals, totals-go-on, up_to_cores, up_to_totals, begins, begins-front, IsStuck, refused}
+use Rattle.scr_report.proofs.Refusals.{goes-on, AreRead, AreTotals, has-cores, has-totals, totals-go-on, up_to_cores, up_to_totals, begins, begins-front, IsStuck, refused}
 
 heads : {X : Type 0} {a b : X} {xs ys : List X} → a ∷ xs ≡ b ∷ ys → a ≡ b
 heads e = cc

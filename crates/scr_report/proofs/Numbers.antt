@@ -1,11 +1,11 @@
 -- Numbers at the front of a text.
-use Rattle.std.proofs.Common.{◌≡◌, ◌≢◌, ℕ, ◌+◌, ◌-◌, ◌<◌, ◌≤◌, ◌^◌, List, [], ◌∷◌, ◌++◌, length, get_or, Bool, true, false, cond, not, ◌&&◌, ◌||◌, ltb, Option, Some, None, Result, Ok, Err, MatchOption, decimal, arith, refl, sym, ap, ◌∙◌, inl, inr, ◌⊎◌, take, unwrap_or, add_comm, add-one}
+use Rattle.std.proofs.Common.{◌≡◌, ◌≢◌, ℕ, ◌+◌, ◌<◌, ◌≤◌, ◌^◌, List, [], ◌∷◌, ◌++◌, length, get_or, Bool, true, false, cond, not, ◌||◌, ltb, Option, Some, None, Result, Ok, Err, MatchOption, decimal, arith, refl, sym, ap, ◌∙◌, inl, inr, take, unwrap_or, add_comm, add-one}
 use Rattle.std.specs.List.{position_or_len}
 use Rattle.std.specs.Result.{result_ok}
 use Rattle.std.specs.Str.{all_ascii_digits}
 use Rattle.std.specs.Str.Parse.{digits_value}
 use Rattle.std.specs.Char.{is_ascii_digit}
-use Rattle.std.proofs.lemmas.Bool.{and_parts, ltb-true, ltb-false, or_parts, or_cases, not-false, not-true, both_ways, cases_Bool, cases_lt, lt-ltb, le-ltb, and_from}
+use Rattle.std.proofs.lemmas.Bool.{and_parts, ltb-true, ltb-false, or_parts, or_cases, both_ways, cases_Bool, cases_lt, lt-ltb, le-ltb, and_from}
 use Rattle.std.proofs.lemmas.List.{take_all, append_cancel_left}
 use Rattle.std.proofs.lemmas.Bool.Decides.{nat_tests}
 use Rattle.std.proofs.lemmas.Str.Parse.{IsNumeralModel, numerals_by_value, tells_all_ascii_digits}

@@ -1,16 +1,14 @@
 -- Bytes are read in one way, but for want of memory.
-use Rattle.std.proofs.Common.{◌≡◌, ◌≢◌, ℕ, ◌+◌, ◌-◌, ◌<◌, ◌≤◌, ◌^◌, List, [], ◌∷◌, ◌++◌, All, length, map, take, drop, Result, Ok, Err, arith, refl, sym, ap, ◌∙◌, subst, append_assoc, inl, inr}
+use Rattle.std.proofs.Common.{◌≡◌, ◌≢◌, ℕ, ◌-◌, ◌<◌, ◌^◌, List, [], ◌∷◌, All, length, map, take, drop, Result, Ok, Err, arith, refl, sym, ap, ◌∙◌, subst, append_assoc, inl, inr}
 use Rattle.std.specs.List.{zip, enumerate_from}
 use Rattle.std.proofs.lemmas.Bool.{cases_order}
-use Rattle.std.proofs.lemmas.List.{append-nil, take-append-drop, take-take, take_all}
+use Rattle.std.proofs.lemmas.List.{append-nil, take-append-drop, take-take}
 use Rattle.std.proofs.lemmas.List.Elements.{All-head, All-tail}
-use Rattle.scr_plan.specs.declared.given.Given.{Given}
-use Rattle.scr_plan.specs.declared.counting.CoreCounts.{CoreCounts}
 use Rattle.scr_report.specs.declared.report.ReportError.{ReportError}
 use Rattle.scr_report.specs.declared.report.ReportError.TheVariants.{Line, Ended, OutOfMemory}
 use Rattle.scr_report.specs.Text.{verdict_line, frames_line, core_line, flows_line, total_line}
 use Rattle.scr_report.specs.Outcome.{Outcome, report_lines}
-use Rattle.scr_report.specs.Grammar.{lines_in, IsReadable, Spells, Begins, IsBadLine, IsEndedAt, ReadsAs}
+use Rattle.scr_report.specs.Grammar.{lines_in, IsReadable, Spells, Begins, IsBadLine, ReadsAs}
 use Rattle.scr_report.proofs.LineKinds.{total-same}
 use Rattle.scr_report.proofs.Refusals.{AreRead, has-totals, begins-front, up_to_totals}
 

@@ -1,6 +1,6 @@
 -- What is written of a plain report has whole lines, which are read back.
-use Rattle.std.proofs.Common.{◌≡◌, ◌≢◌, ℕ, zero, suc, take, ◌+◌, ◌<◌, ◌≤◌, ◌^◌, List, [], ◌∷◌, ◌++◌, All, length, map, get_or, Bool, true, false, ◌||◌, codes, decimal, eqb, arith, refl, sym, ap, ◌∙◌, subst, append_assoc}
-use Rattle.std.specs.List.{concat, list_any, zip, enumerate_from}
+use Rattle.std.proofs.Common.{◌≡◌, ℕ, zero, suc, take, ◌+◌, ◌<◌, ◌≤◌, ◌^◌, List, [], ◌∷◌, ◌++◌, All, length, map, get_or, true, false, codes, decimal, eqb, arith, refl, sym, ap, ◌∙◌, append_assoc}
+use Rattle.std.specs.List.{zip, enumerate_from}
 use Rattle.std.specs.Str.{all_ascii_digits}
 use Rattle.std.specs.Char.{is_ascii_digit}
 use Rattle.std.proofs.lemmas.Bool.{and_parts, or_from}
@@ -11,8 +11,8 @@ use Rattle.scr_plan.specs.declared.given.Given.{Given}
 use Rattle.scr_plan.specs.declared.counting.CoreCounts.{CoreCounts}
 use Rattle.scr_report.specs.Text.{line, name_at, verdict_line, frames_line, core_line, flows_line, total_line}
 use Rattle.scr_report.specs.Outcome.{Outcome, report_lines, report_text}
-use Rattle.scr_report.specs.Grammar.{IsFirstOfName, MayFollow, FollowOn, AreCounts, IsReadable, Spells}
-use Rattle.scr_report.specs.ReadBack.{ArePlain, FitsNames, Grow, IsPlain}
+use Rattle.scr_report.specs.Grammar.{IsFirstOfName, FollowOn, AreCounts, IsReadable, Spells}
+use Rattle.scr_report.specs.ReadBack.{ArePlain, Grow}
 use Rattle.scr_report.specs.Parts.{last_number}
 use Rattle.scr_report.proofs.Numbers.{all-decimal}
 use Rattle.scr_report.proofs.Cutting.{has_feed, IsWhole, lines-concat}

@@ -1,19 +1,17 @@
 -- Where a reader that went past allowed lines finds no more of them: the lines so far begin a report, and no report has
 -- the next one behind them.
-use Rattle.std.proofs.Common.{◌≡◌, ◌≢◌, ℕ, zero, suc, ◌+◌, ◌-◌, ◌<◌, ◌≤◌, ◌^◌, List, [], ◌∷◌, ◌++◌, All, length, map, take, drop, replicate, get_or, Result, Ok, Err, arith, refl, sym, ap, ◌∙◌, subst, append_assoc, length-append, inl, inr, ◌⊎◌}
+use Rattle.std.proofs.Common.{◌≡◌, ◌≢◌, ℕ, ◌+◌, ◌-◌, ◌<◌, ◌≤◌, ◌^◌, List, [], ◌∷◌, ◌++◌, All, length, map, take, drop, replicate, Err, arith, refl, sym, ap, ◌∙◌, subst, append_assoc, length-append}
 use Rattle.std.specs.List.{zip, enumerate_from}
-use Rattle.std.proofs.lemmas.List.{append_cancel_left, append-nil, take_at, length-map, length-replicate, length-drop, nil_from_length, map-append}
-use Rattle.std.proofs.lemmas.List.Elements.{All-head, All-tail, All-append, All-replicate, All-nil}
+use Rattle.std.proofs.lemmas.List.{append-nil, take_at, length-replicate, map-append}
+use Rattle.std.proofs.lemmas.List.Elements.{All-head, All-tail, All-append, All-replicate}
 use Rattle.scr_plan.specs.declared.given.Given.{Given}
 use Rattle.scr_plan.specs.declared.counting.CoreCounts.{CoreCounts}
-use Rattle.scr_report.specs.declared.report.ReportError.{ReportError}
-use Rattle.scr_report.specs.declared.report.ReportError.TheVariants.{Line, Ended, OutOfMemory}
-use Rattle.scr_report.specs.Text.{name_at, verdict_line, frames_line, core_line, flows_line, total_line}
-use Rattle.scr_report.specs.Outcome.{Outcome, verdict_lines, counter_lines, report_lines}
-use Rattle.scr_report.specs.Grammar.{lines_in, MayFollow, FollowOn, AreCounts, IsReadable, Spells, Begins, IsBadLine, IsEndedAt, ReadsAs}
+use Rattle.scr_report.specs.Text.{verdict_line, frames_line, core_line, flows_line, total_line}
+use Rattle.scr_report.specs.Outcome.{Outcome, counter_lines, report_lines}
+use Rattle.scr_report.specs.Grammar.{lines_in, FollowOn, AreCounts, IsReadable, Begins, ReadsAs}
 use Rattle.scr_report.specs.Parts.{first_line, refusal_at, last_number}
-use Rattle.scr_report.proofs.Cutting.{lines-parted, lines-none}
-use Rattle.scr_report.proofs.LineKinds.{frames-same, flows-same, total-same, core-same, verdict-same, verdict-not_frames, core-not_flows}
+use Rattle.scr_report.proofs.Cutting.{lines-parted}
+use Rattle.scr_report.proofs.LineKinds.{frames-same, flows-same, core-same, verdict-same, verdict-not_frames, core-not_flows}
 
 heads : {X : Type 0} {a b : X} {xs ys : List X} → a ∷ xs ≡ b ∷ ys → a ≡ b
 heads e = cc

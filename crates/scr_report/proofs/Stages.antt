@@ -3,7 +3,7 @@ use Rattle.std.proofs.Common.{◌≡◌, ℕ, ◌+◌, ◌<◌, List, [], ◌∷
 use Rattle.std.specs.List.{enumerate_from, zip}
 use Rattle.std.proofs.lemmas.List.{map_push}
 use Rattle.scr_plan.specs.declared.given.Given.{Given}
-use Rattle.scr_report.specs.Text.{name_at, verdict_line}
+use Rattle.scr_report.specs.Text.{name_at}
 use Rattle.scr_report.specs.Grammar.{lines_in, MayFollow, FollowOn}
 use Rattle.scr_report.specs.Parts.{Cursor, GoesPast, last_number}
 

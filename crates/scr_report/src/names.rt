@@ -7,10 +7,7 @@ use scr_base::{OutOfMemory, Verdict};
 use std::alloc::Global;
 use std::marker::Model;
 
-/// How many names a list may have.
-const MOST: usize = 255;
-
-/// The names of a program's verdicts, in the order of their numbers.
+/// The names of a program's verdicts, in the order of their numbers: at most 255.
 #[derive(Debug, Drop)]
 pub struct Names {
     names: Vec<String>,

@@ -1,9 +1,9 @@
-use Rattle.std.proofs.Common.{◌≡◌, ◌<◌, ◌≤◌, ◌^◌, List, ℕ, All, length, true, rules, sym, ap, ◌∙◌, subst, arith}
+use Rattle.std.proofs.Common.{◌≡◌, ◌<◌, ◌^◌, List, ℕ, All, length, true, rules, sym, ap, ◌∙◌, subst, arith}
 use Rattle.std.proofs.lemmas.Bool.{MatchBool-at_true, both_ways}
 use Rattle.scr_plan.specs.declared.given.Given.{Given}
 use Rattle.scr_plan.specs.declared.counting.CoreCounts.{CoreCounts}
 use Rattle.scr_report.specs.Outcome.{Outcome, report_text}
-use Rattle.scr_report.specs.Grammar.{AreCounts, FollowOn, Spells}
+use Rattle.scr_report.specs.Grammar.{AreCounts, Spells}
 use Rattle.scr_report.specs.ReadBack.{ArePlain, Grow}
 use Rattle.scr_report.proofs.ReadBack.{spells-written, follow-on}
 use Rattle.scr_report.proofs.laws.is_plain.Goals as goal

@@ -1,4 +1,4 @@
-use Rattle.std.proofs.Common.{get_or, take_all, sym, arith}
+use Rattle.std.proofs.Common.{take_all, sym}
 use Rattle.std.proofs.lemmas.List.Elements.{All-more, All-same}
 use Rattle.scr_plan.specs.declared.counting.CoreCounts.{CoreCounts}
 use Rattle.scr_report.specs.Grammar.{AreCounts}

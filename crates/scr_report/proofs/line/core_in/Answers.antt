@@ -1,4 +1,4 @@
-use Rattle.std.proofs.Common.{◌≡◌, ◌∷◌, [], refl, arith, codes}
+use Rattle.std.proofs.Common.{◌∷◌, [], refl, arith, codes}
 use Rattle.scr_report.proofs.LineKinds.{behind_core, behind_reached, behind_carried, behind_recovered, behind-number, no-number}
 use Rattle.scr_report.proofs.line.core_in.Goals as goal
 use Rattle.scr_report.proofs.line.core_in.Goals.{then-not-ends-via-then-not-ends, then-not-ends-via-else-not-ends+then-number-from}

@@ -1,4 +1,4 @@
-use Rattle.std.proofs.Common.{◌≡◌, ◌∷◌, [], refl, arith, codes}
+use Rattle.std.proofs.Common.{◌∷◌, [], refl, arith, codes}
 use Rattle.scr_report.proofs.LineKinds.{behind_frames, behind_delivered, behind-number, no-number}
 use Rattle.scr_report.proofs.line.frames_in.Goals as goal
 

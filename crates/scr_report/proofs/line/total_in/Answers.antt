@@ -1,4 +1,4 @@
-use Rattle.std.proofs.Common.{◌≡◌, ◌∷◌, [], refl, arith, codes, sym}
+use Rattle.std.proofs.Common.{◌∷◌, [], refl, arith, codes}
 use Rattle.scr_report.proofs.LineKinds.{behind-name, behind-number, no-number}
 use Rattle.scr_report.proofs.line.total_in.Goals as goal
 

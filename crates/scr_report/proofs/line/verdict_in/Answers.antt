@@ -1,4 +1,4 @@
-use Rattle.std.proofs.Common.{◌≡◌, ◌∷◌, ◌++◌, [], refl, arith, sym, ◌∙◌, ap, List, ℕ}
+use Rattle.std.proofs.Common.{◌≡◌, ◌∷◌, ◌++◌, [], arith, sym, ◌∙◌, List, ℕ}
 use Rattle.scr_report.specs.Text.{name_at}
 use Rattle.scr_report.proofs.LineKinds.{behind-frame, name-behind}
 use Rattle.scr_report.proofs.line.verdict_in.Goals as goal

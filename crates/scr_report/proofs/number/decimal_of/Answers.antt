@@ -1,5 +1,4 @@
-use Rattle.std.proofs.Common.{◌≡◌, ◌+◌, ◌<◌, length, slice_index_or, arith, rules, sym, ap, ◌∙◌}
-use Rattle.std.proofs.lemmas.Bool.Decides.{nat_tests}
+use Rattle.std.proofs.Common.{◌≡◌, ◌<◌, length, slice_index_or, arith, rules}
 use Rattle.scr_report.proofs.Numbers.{decimal-read, no_zero_first}
 use Rattle.scr_report.proofs.number.decimal_of.Goals as goal
 use Rattle.scr_report.proofs.number.decimal_of.Goals.{else-digits-gt1-via-then-digits-gt1+else-digits-eq48, else-digits-gt1-via-else-digits-gt1}

@@ -1,4 +1,4 @@
-use Rattle.std.proofs.Common.{◌≡◌, ◌≤◌, All, length, map}
+use Rattle.std.proofs.Common.{◌≡◌, All, length, map}
 use Rattle.std.specs.List.{enumerate_from}
 use Rattle.scr_report.specs.Text.{core_line}
 use Rattle.scr_report.specs.Grammar.{AreCounts}

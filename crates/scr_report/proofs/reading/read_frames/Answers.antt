@@ -1,4 +1,4 @@
-use Rattle.std.proofs.Common.{sym, ◌∙◌}
+use Rattle.std.proofs.Common.{◌∙◌}
 use Rattle.scr_report.proofs.reading.read_frames.Goals as goal
 
 pub returns-in_default : goal.returns-in_default

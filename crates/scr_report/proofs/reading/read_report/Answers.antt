@@ -1,11 +1,7 @@
-use Rattle.std.proofs.Common.{◌≡◌, ◌≢◌, List, [], ◌∷◌, length, Err, sym, ap, arith}
+use Rattle.std.proofs.Common.{◌≡◌, length, ap, arith}
 use Rattle.std.proofs.lemmas.Bool.Decides.{nat_tests}
 use Rattle.std.proofs.lemmas.List.{nil_from_length}
 use Rattle.std.proofs.lemmas.Result.{err_from_is_err_and}
-use Rattle.scr_report.specs.declared.report.ReportError.{ReportError}
-use Rattle.scr_report.specs.declared.report.ReportError.TheVariants.{Line, Ended, OutOfMemory}
-use Rattle.scr_report.specs.Parts.{LacksTotal}
-use Rattle.scr_report.specs.Grammar.{ReadsAs}
 use Rattle.scr_report.proofs.OneReading.{ReadsAs-same}
 use Rattle.scr_report.proofs.Ends.{no-frames, no-flows, no-total, no-end, spelled, but_for_memory}
 use Rattle.scr_report.proofs.reading.read_report.Goals as goal

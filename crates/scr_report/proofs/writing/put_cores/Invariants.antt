@@ -1,7 +1,7 @@
 use Rattle.std.proofs.Common.{◌≤◌, take}
-use Rattle.std.specs.List.{flat_map, enumerate_from, zip}
+use Rattle.std.specs.List.{flat_map, enumerate_from}
 use Rattle.scr_base.specs.Streams.{Passes}
-use Rattle.scr_report.specs.Text.{verdict_line, core_line, total_line}
+use Rattle.scr_report.specs.Text.{core_line}
 use Rattle.scr_report.proofs.writing.put_cores.Given as goal
 
 abbrev pub invariant-loop-core : goal.invariant-loop-core

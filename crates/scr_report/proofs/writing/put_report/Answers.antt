@@ -1,4 +1,4 @@
-use Rattle.std.proofs.Common.{◌++◌, ◌<◌, List, [], ℕ, All, length, map, subst, sym, ap, if◌then◌else◌}
+use Rattle.std.proofs.Common.{◌++◌, ◌<◌, List, ℕ, length, map, subst}
 use Rattle.std.specs.List.{concat}
 use Rattle.std.proofs.lemmas.Result.{err_from_is_err_and}
 use Rattle.std.proofs.lemmas.List.Elements.{All-same}

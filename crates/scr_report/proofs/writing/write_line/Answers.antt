@@ -1,7 +1,7 @@
-use Rattle.std.proofs.Common.{◌≡◌, ℕ, List, [], ◌∷◌, ◌++◌, decimal, sym, ap, subst}
+use Rattle.std.proofs.Common.{ℕ, List, [], ◌∷◌, ◌++◌, decimal, subst}
 use Rattle.std.proofs.lemmas.Result.{err_from_is_err_and}
 use Rattle.std.specs.Io.KnownBytes.{Appends}
-use Rattle.scr_base.specs.Streams.{WritesText, AppendsPrefix}
+use Rattle.scr_base.specs.Streams.{AppendsPrefix}
 use Rattle.scr_report.proofs.Written.{prefix-then, piece-then, piece-fails}
 use Rattle.scr_report.proofs.writing.write_line.Goals as goal
 

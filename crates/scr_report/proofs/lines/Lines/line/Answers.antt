@@ -1,4 +1,4 @@
-use Rattle.std.proofs.Common.{◌≡◌, ℕ, List, take, arith, ap, sym, ◌∙◌}
+use Rattle.std.proofs.Common.{ℕ, take, arith, ap, ◌∙◌}
 use Rattle.scr_report.specs.Parts.{first_line, Cursor}
 use Rattle.scr_report.proofs.Cutting.{first-front, first-within}
 use Rattle.scr_report.proofs.lines.Lines.line.Goals as goal

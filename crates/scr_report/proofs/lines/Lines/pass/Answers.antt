@@ -1,4 +1,4 @@
-use Rattle.std.proofs.Common.{◌≡◌, ℕ, ◌+◌, ◌<◌, ◌≤◌, ◌∷◌, [], List, length, drop, refl, arith, ap, sym, ◌∙◌, subst}
+use Rattle.std.proofs.Common.{◌≡◌, ℕ, ◌+◌, ◌≤◌, ◌∷◌, [], List, length, drop, refl, arith, ap, sym, ◌∙◌, subst}
 use Rattle.scr_report.specs.Grammar.{lines_in}
 use Rattle.scr_report.specs.Parts.{first_line, Cursor, GoesPast}
 use Rattle.scr_report.proofs.Cutting.{first-within, lines-parted}

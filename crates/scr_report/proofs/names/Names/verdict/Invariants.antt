@@ -1,4 +1,4 @@
-use Rattle.std.proofs.Common.{◌≡◌, ◌≢◌, ℕ, ◌<◌, [], map, get_or}
+use Rattle.std.proofs.Common.{◌≢◌, ℕ, ◌<◌, [], map, get_or}
 use Rattle.std.specs.String.{string_bytes}
 use Rattle.scr_report.proofs.names.Names.verdict.Given as goal
 
