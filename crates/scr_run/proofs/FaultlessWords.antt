@@ -1,7 +1,7 @@
 -- What follows where no operand has a fault.
-use Rattle.std.proofs.Common.{◌≡◌, ◌⊎◌, inl, inr, ℕ, zero, suc, ◌+◌, ◌<◌, List, [], ◌∷◌, length, get_or, Bool, true, false, cond, not, Option, Some, None, refl, sym, ap, ◌∙◌, subst, arith}
+use Rattle.std.proofs.Common.{◌≡◌, ◌⊎◌, inl, inr, ℕ, suc, ◌+◌, ◌<◌, List, [], ◌∷◌, length, get_or, Bool, true, false, cond, not, Option, Some, None, refl, ap, ◌∙◌, subst, arith}
 use Rattle.std.specs.List.{find, list_any}
-use Rattle.std.specs.Prelude.{option_map, option_and_then, is_some, codes}
+use Rattle.std.specs.Prelude.{option_map, option_and_then, codes}
 use Rattle.std.specs.Str.{bytes_eq}
 use Rattle.std.proofs.lemmas.Bool.{and_parts}
 use Rattle.std.proofs.lemmas.Slice.Eq.{bytes_eq-Decides}
@@ -15,7 +15,7 @@ use Rattle.scr_run.specs.declared.command_words.operand.Operand.TheVariants as o
 use Rattle.scr_run.specs.declared.command_words.operand.Form.TheVariants.{OneProgram}
 use Rattle.scr_run.specs.Operands.{table, operand_named, command_named, program_named, is_taken}
 use Rattle.scr_run.specs.WordParts.{has_equals, name_in, value_in, is_named, given, chosen}
-use Rattle.scr_run.specs.WordFaults.{operand_fault, value_fault, fault_at, AreFaultless, IsMissing, AreRefused}
+use Rattle.scr_run.specs.WordFaults.{operand_fault, value_fault, AreFaultless, IsMissing, AreRefused}
 use Rattle.scr_run.specs.WordTests.{HaveFaultlessValues}
 
 -- a word with a name and a value

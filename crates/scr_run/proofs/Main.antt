@@ -1,5 +1,5 @@
 -- How the whole program ends, from how the run of its command ended.
-use Rattle.std.proofs.Common.{◌≡◌, ℕ, Bool, true, false, List, [], ◌∷◌, Option, Some, Result, Ok, Err, refl, sym, ap, ◌∙◌, subst, inl, inr}
+use Rattle.std.proofs.Common.{◌≡◌, ℕ, true, false, List, [], ◌∷◌, Option, Some, Result, Ok, Err, refl, sym, ap, ◌∙◌, subst, inl, inr}
 use Rattle.scr_base.specs.Causes.{Rose}
 use Rattle.scr_pcap.specs.Generated.{generated}
 use Rattle.scr_pcap.specs.Records.{Record}

@@ -1,5 +1,5 @@
 -- Words are accepted or refused, never both, and are refused with one fault.
-use Rattle.std.proofs.Common.{◌≡◌, ◌⊎◌, inl, inr, ℕ, ◌+◌, ◌<◌, List, [], ◌∷◌, length, Option, Some, None, MatchOption, refl, sym, ap, ◌∙◌, arith}
+use Rattle.std.proofs.Common.{◌≡◌, ◌⊎◌, inl, inr, ℕ, ◌<◌, List, [], ◌∷◌, Option, Some, None, MatchOption, sym, ap, ◌∙◌, arith}
 use Rattle.std.specs.Prelude.{option_and_then, codes}
 use Rattle.std.proofs.lemmas.Option.{MatchOption-at_some}
 use Rattle.scr_run.specs.declared.status.WordCause.{WordCause}
@@ -10,7 +10,7 @@ use Rattle.scr_run.specs.declared.command_words.settings.ProgramSettings.TheVari
 use Rattle.scr_run.specs.declared.command_words.settings.RunSettings.{RunSettings}
 use Rattle.scr_run.specs.declared.command_words.operand.ProgramName.{ProgramName}
 use Rattle.scr_run.specs.Operands.{command_named, program_named}
-use Rattle.scr_run.specs.WordParts.{given, chosen}
+use Rattle.scr_run.specs.WordParts.{given}
 use Rattle.scr_run.specs.WordFaults.{fault_at, AreFaultless, IsFirstFault, IsMissing, AreRefused}
 use Rattle.scr_run.specs.GivenSettings.{HasProgram, AreAccepted}
 

@@ -1,5 +1,5 @@
 -- The fault of an operand, by the first cause that holds.
-use Rattle.std.proofs.Common.{◌≡◌, ℕ, ◌<◌, List, [], length, take, get_or, Bool, true, false, Option, Some, None, refl, sym, ap, ◌∙◌}
+use Rattle.std.proofs.Common.{◌≡◌, ℕ, ◌<◌, List, [], length, take, get_or, true, false, Option, Some, None, refl, sym, ap, ◌∙◌}
 use Rattle.std.proofs.lemmas.List.{get_or_default}
 use Rattle.std.specs.List.{list_any}
 use Rattle.scr_run.specs.declared.status.WordCause.TheVariants.{NoEquals, UnknownName, NotHere, Twice}

@@ -1,5 +1,5 @@
 -- The report that was written is that of the capture.
-use Rattle.std.proofs.Common.{◌≡◌, ℕ, List, Option, Some, None, Result, Ok, Err, IfSome, refl, sym, ap, ◌∙◌, subst, inl, inr}
+use Rattle.std.proofs.Common.{◌≡◌, ℕ, List, Option, Some, None, Result, Ok, Err, IfSome, subst, inl, inr}
 use Rattle.std.specs.Io.KnownBytes.{Appends, IsAtEnd}
 use Rattle.scr_base.specs.Streams.{AppendsPrefix}
 use Rattle.scr_base.specs.declared.row.Row.{Row}

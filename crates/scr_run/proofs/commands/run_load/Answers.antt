@@ -1,4 +1,4 @@
-use Rattle.std.proofs.Common.{◌≡◌, ℕ, List, Some, Ok, ap, ◌∙◌, subst, arith}
+use Rattle.std.proofs.Common.{ℕ, List, Some, Ok, ap, ◌∙◌, subst, arith}
 use Rattle.scr_base.specs.Causes.{Rose}
 use Rattle.scr_base.specs.Memory.{SureSourceInMemory}
 use Rattle.scr_pcap.specs.Generated.{generated, generated_records}

@@ -1,4 +1,4 @@
-use Rattle.std.proofs.Common.{◌≡◌, ◌++◌, ◌∷◌, [], List, length, refl, ◌∙◌, ap, arith, sym}
+use Rattle.std.proofs.Common.{◌≡◌, ◌++◌, ◌∷◌, [], List, length, ◌∙◌, ap, arith, sym}
 use Rattle.scr_base.specs.declared.row.Row.{Row}
 use Rattle.scr_frame.specs.Fields.{fields}
 use Rattle.scr_pcap.specs.State.{ReaderState}

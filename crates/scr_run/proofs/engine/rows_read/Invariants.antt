@@ -1,4 +1,4 @@
-use Rattle.std.proofs.Common.{◌≡◌, ◌≤◌, ◌-◌, length}
+use Rattle.std.proofs.Common.{◌≡◌, ◌≤◌, ◌-◌}
 use Rattle.scr_pcap.specs.declared.reader.Progress.TheVariants.{Reading}
 use Rattle.scr_run.proofs.Progress.{HasTaken}
 use Rattle.scr_run.proofs.engine.rows_read.Given as goal

@@ -1,5 +1,4 @@
-use Rattle.std.proofs.Common.{◌≡◌, ◌<◌, ℕ, List, All, length, ap, ◌∙◌, sym, subst}
-use Rattle.scr_pcap.specs.Records.{Record}
+use Rattle.std.proofs.Common.{◌≡◌, ◌<◌, List, All, length, ap, ◌∙◌, sym, subst}
 use Rattle.scr_plan.specs.declared.given.Given.{Given}
 use Rattle.scr_plan.specs.Plan.{Plan}
 use Rattle.scr_replica.proofs.Counted.{length-verdicts-delivered, verdicts-named}

@@ -1,5 +1,4 @@
-use Rattle.std.proofs.Common.{◌≡◌, ℕ, List, length, map, ap, ◌∙◌, sym, arith}
-use Rattle.std.specs.List.{range_with_len}
+use Rattle.std.proofs.Common.{length, ap, ◌∙◌, sym}
 use Rattle.std.proofs.lemmas.List.FromFn.{length-map-range_with_len}
 use Rattle.scr_report.specs.Outcome.{total_of}
 use Rattle.scr_run.proofs.found.write_found.Goals as goal

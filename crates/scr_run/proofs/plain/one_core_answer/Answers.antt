@@ -1,4 +1,4 @@
-use Rattle.std.proofs.Common.{◌≡◌, ◌++◌, ◌∷◌, [], List, All, ◌<◌, length, refl, ◌∙◌, ap, arith, sym, subst}
+use Rattle.std.proofs.Common.{◌≡◌, ◌++◌, ◌∷◌, [], List, All, ◌<◌, length, ◌∙◌, ap, arith, sym, subst}
 use Rattle.scr_plan.specs.declared.given.Given.{Given}
 use Rattle.scr_frame.specs.Fields.{fields}
 use Rattle.scr_pcap.specs.State.{ReaderState}

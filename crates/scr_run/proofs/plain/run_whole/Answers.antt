@@ -1,4 +1,4 @@
-use Rattle.std.proofs.Common.{◌≡◌, ℕ, true, List, [], length, ap, ◌∙◌, sym, arith}
+use Rattle.std.proofs.Common.{◌≡◌, true, length, ap, ◌∙◌, sym, arith}
 use Rattle.scr_replica.specs.OneCore.{verdicts, undivided}
 use Rattle.scr_replica.proofs.Undivided.{length-verdicts, entries-undivided}
 use Rattle.scr_replica.proofs.Counted.{delivered_count-undivided, kept_count-undivided}

@@ -1,8 +1,7 @@
-use Rattle.std.proofs.Common.{◌≡◌, ℕ, List, refl, subst, None, Ok, Result}
+use Rattle.std.proofs.Common.{◌≡◌, refl, None}
 use Rattle.scr_knock.specs.Ports.{ports_in}
 use Rattle.scr_run.specs.declared.command_words.operand.Operand.TheVariants.{Ports}
-use Rattle.scr_run.specs.Operands.{table}
-use Rattle.scr_run.specs.WordFaults.{setting_fault, value_fault}
+use Rattle.scr_run.specs.WordFaults.{setting_fault}
 use Rattle.scr_run.specs.GivenSettings.{value_for}
 use Rattle.scr_run.proofs.GivenValues.{value_for-passes, setting_fault-none, MatchResult-more}
 use Rattle.scr_run.proofs.command_words.choosing.knock_settings.Goals as goal

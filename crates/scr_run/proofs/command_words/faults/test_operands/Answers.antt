@@ -1,4 +1,4 @@
-use Rattle.std.proofs.Common.{◌≡◌, ℕ, Some, None, sym, ap, ◌∙◌, refl, below_more}
+use Rattle.std.proofs.Common.{◌≡◌, Some, None, sym, ap, ◌∙◌, refl, below_more}
 use Rattle.scr_run.specs.WordFaults.{fault_at}
 use Rattle.scr_run.proofs.OperandFaults.{fault_at-is}
 use Rattle.scr_run.proofs.command_words.faults.test_operands.Goals as goal

@@ -1,9 +1,5 @@
-use Rattle.std.proofs.Common.{◌≡◌, ℕ, List, Some, None, Ok, Err, refl, sym, ap, ◌∙◌, subst, Result}
+use Rattle.std.proofs.Common.{refl}
 use Rattle.std.proofs.lemmas.Result.{err_from_is_err_and}
-use Rattle.scr_run.specs.declared.command_words.operand.Form.{Form}
-use Rattle.scr_run.specs.declared.command_words.operand.Form.TheVariants.{DropList, ThreePorts}
-use Rattle.scr_run.specs.WordFaults.{value_fault, drop_list_fault}
-use Rattle.scr_run.specs.WordTests.{Tells}
 use Rattle.scr_knock.specs.Ports.{ports_in}
 use Rattle.scr_run.proofs.GivenValues.{setting_fault-refused}
 use Rattle.scr_run.proofs.DropListFaults.{drop_list_fault-none, Tells-refused}
