@@ -1,6 +1,9 @@
-pub mod OneCore
 pub mod Progress
 pub mod Ending
+pub mod Counts
+pub mod Written
+pub mod Loading
+pub mod Main
 pub mod GivenValues
 pub mod DropListFaults
 pub mod OperandFaults

@@ -41,7 +41,6 @@ cause_line cause.Range = codes "Range\n"
 cause_line (cause.Drop refusal place) =
     codes "Drop " ++ (drop_cause_name refusal ++ (codes " at " ++ (decimal place ++ codes "\n")))
 cause_line cause.Missing = codes "Missing\n"
-cause_line cause.NotBuilt = codes "NotBuilt\n"
 
 abbrev pub word_line : WordFault → List ℕ
 word_line fault = (codes "scr: word " ++ (decimal fault.word ++ codes ": ")) ++ cause_line fault.cause

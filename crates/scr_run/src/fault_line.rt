@@ -91,7 +91,6 @@ fn put_cause<E: Sink>(batch: &mut Batch, err: &mut E, cause: WordCause) -> Resul
         WordCause::Range => batch.put(err, b"Range\n"),
         WordCause::Drop { cause, place } => put_drop_cause(batch, err, cause, place),
         WordCause::Missing => batch.put(err, b"Missing\n"),
-        WordCause::NotBuilt => batch.put(err, b"NotBuilt\n"),
     }
 }
 

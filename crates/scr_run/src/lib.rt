@@ -27,19 +27,22 @@
 //! alone.
 #![tactic(auto)]
 
-mod answer;
 mod command_words;
+mod commands;
+mod engine;
 mod fault_line;
+mod found;
 mod names;
-mod report;
+mod plain;
 mod status;
 #[cfg(test)]
 mod tests;
 mod top;
-mod words;
 
 pub use command_words::{Command, ProgramSettings, RunSettings, Shape, WordsError, read_words};
+pub use engine::run_engine;
 pub use fault_line::write_fault_line;
 pub use names::names_of;
+pub use plain::plain_run;
 pub use status::{Status, WordCause, WordFault};
 pub use top::scr_main;

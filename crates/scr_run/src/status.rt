@@ -61,8 +61,6 @@ pub enum WordCause {
     },
     /// All words are good, and none of them names a program.
     Missing,
-    /// What the words ask for isn't built.
-    NotBuilt,
 }
 
 impl Status {
@@ -84,7 +82,7 @@ impl Status {
 
 impl From<CaptureError> for Status {
     ghost use Rattle.std.specs.Prelude.{◌≡◌};
-    ghost use Rattle.scr_run.specs.Answers.{status_of};
+    ghost use Rattle.scr_run.specs.Ends.{status_of};
 
     ghost from_gives = { λ error status. status ≡ status_of error };
 
@@ -110,7 +108,7 @@ impl From<OutOfMemory> for Status {
 
 impl From<SinkError> for Status {
     ghost use Rattle.std.specs.Prelude.{◌≡◌};
-    ghost use Rattle.scr_run.specs.Causes.{status_of_sink};
+    ghost use Rattle.scr_run.specs.Ends.{status_of_sink};
 
     ghost from_gives = { λ error status. status ≡ status_of_sink error };
 

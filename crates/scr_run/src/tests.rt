@@ -1,7 +1,8 @@
 //! Runs over captures in memory. Captures, reports and lines are written by hand.
 
-use crate::{Status, WordCause, WordFault, scr_main, write_fault_line};
+use crate::{Status, WordCause, WordFault, names_of, scr_main, write_fault_line};
 use scr_base::{MemSink, MemSource, OutOfMemory, Source, SureSink, SureSource, Word};
+use scr_bucket::Bucket;
 use scr_pcap::{CaptureError, Order};
 use std::alloc::Global;
 use std::ops::Range;
@@ -102,6 +103,9 @@ fn run_over<S: Source>(
     capture: &mut S,
 ) -> Result<Ended, OutOfMemory> {
     let words = words_of(alloc, texts)?;
+    if words.len() > 1000 {
+        return Err(OutOfMemory);
+    }
     let mut out = SureSink::new(alloc, usize::MAX);
     let mut err = SureSink::new(alloc, usize::MAX);
     let status = scr_main(alloc, &words, capture, &mut out, &mut err);
@@ -219,6 +223,7 @@ fn ends_at_each_failed_read(rt: HostRuntime) -> Result<(), Fail> {
 #[test]
 fn ends_at_each_failed_write(rt: HostRuntime) -> Result<(), Fail> {
     let words = words_of(rt.alloc(), WORDS)?;
+    assert!(rt; words.len() == 3);
     let mut failed = 0;
     for call in 1..100 {
         let mut source = SureSource::new(whole_capture(rt.alloc())?, 100);
@@ -242,6 +247,7 @@ fn ends_at_each_failed_write(rt: HostRuntime) -> Result<(), Fail> {
 #[test]
 fn keeps_its_status_where_the_line_fails(rt: HostRuntime) -> Result<(), Fail> {
     let words = words_of(rt.alloc(), WORDS)?;
+    assert!(rt; words.len() == 3);
     for call in 1..=4 {
         let mut source = SureSource::new(whole_capture(rt.alloc())?, 100);
         let mut out = MemSink::new(rt.alloc(), 100, vec![in rt.alloc(); 1]?);
@@ -254,39 +260,124 @@ fn keeps_its_status_where_the_line_fails(rt: HostRuntime) -> Result<(), Fail> {
 }
 
 #[test]
-fn leaves_the_capture_unread_at_other_words(rt: HostRuntime) -> Result<(), Fail> {
-    let fault = WordFault {
-        word: 1,
-        cause: WordCause::NotBuilt,
-    };
-    let cases: [&[&str]; 6] = [
-        &[],
-        &["walk"],
-        &["run", "program=ddos"],
-        &["run", "program=dns", "threshold=2"],
-        &["run", "program=ddos", "threshold=4294967296"],
-        &["run", "program=ddos", "threshold=2", "cores=2"],
+fn leaves_the_capture_unread_at_refused_words(rt: HostRuntime) -> Result<(), Fail> {
+    let cases: [(&[&str], &str); 5] = [
+        (&[], "scr: word 1: NoCommand\n"),
+        (&["walk"], "scr: word 1: Command\n"),
+        (&["run"], "scr: word 2: Missing\n"),
+        (
+            &["run", "program=ddos", "threshold=4294967296"],
+            "scr: word 3: Range\n",
+        ),
+        (
+            &["run", "program=ddos", "drop=1,,2"],
+            "scr: word 3: Drop Empty at 2\n",
+        ),
     ];
-    for texts in cases {
+    for (texts, line) in cases {
         let mut source = SureSource::new(whole_capture(rt.alloc())?, 300);
         let ended = run_over(rt.alloc(), texts, &mut source)?;
-        assert_ended(
-            &rt,
-            &ended,
-            Status::Words(fault),
-            "",
-            "scr: word 1: NotBuilt\n",
-        );
+        assert!(rt; matches!(ended.status, Status::Words(_)), "at {line}");
+        assert_ended(&rt, &ended, ended.status, "", line);
         assert_eq!(rt; source.read(&mut [0; 300]), Ok(256));
     }
     Ok(())
 }
 
 #[test]
+fn reports_what_cores_gather(rt: HostRuntime) -> Result<(), Fail> {
+    let cases: [(&[&str], &str); 5] = [
+        (
+            &[
+                "run",
+                "program=ddos",
+                "threshold=2",
+                "cores=2",
+                "history=0",
+                "drop=2",
+            ],
+            "1 PASS\n3 PASS\n4 DROP\n\
+             frames 4 delivered 3 kept 3\n\
+             core 0 delivered 2 carried 2 recovered 1 skipped 1\n\
+             core 1 delivered 1 carried 1 recovered 2 skipped 1\n\
+             flows 1\n\
+             verdict PASS 2\nverdict DROP 1\nverdict OTHER 0\n",
+        ),
+        (
+            &[
+                "run",
+                "program=ddos",
+                "threshold=2",
+                "cores=2",
+                "history=1",
+                "drop=2",
+                "threads=no",
+            ],
+            "1 PASS\n3 DROP\n4 DROP\n\
+             frames 4 delivered 3 kept 4\n\
+             core 0 delivered 2 carried 3 recovered 1 skipped 0\n\
+             core 1 delivered 1 carried 2 recovered 2 skipped 0\n\
+             flows 1\n\
+             verdict PASS 1\nverdict DROP 2\nverdict OTHER 0\n",
+        ),
+        (
+            &["run", "program=ddos", "cores=2", "drop=1-4"],
+            "frames 4 delivered 0 kept 0\n\
+             core 0 delivered 0 carried 0 recovered 0 skipped 4\n\
+             core 1 delivered 0 carried 0 recovered 0 skipped 4\n\
+             flows 0\n\
+             verdict PASS 0\nverdict DROP 0\nverdict OTHER 0\n",
+        ),
+        (
+            &["plain", "program=heavy", "bytes=60"],
+            "1 PASS\n2 PASS\n3 HEAVY\n4 HEAVY\n\
+             frames 4 delivered 4 kept 4\n\
+             flows 1\n\
+             verdict PASS 2\nverdict HEAVY 2\nverdict OTHER 0\n",
+        ),
+        (
+            &["plain", "program=knock", "ports=53,53,53"],
+            "1 DROP\n2 DROP\n3 DROP\n4 PASS\n\
+             frames 4 delivered 4 kept 4\n\
+             flows 1\n\
+             verdict PASS 1\nverdict DROP 3\nverdict OTHER 0\n",
+        ),
+    ];
+    for (texts, report) in cases {
+        let mut source = SureSource::new(whole_capture(rt.alloc())?, 100);
+        let ended = run_over(rt.alloc(), texts, &mut source)?;
+        assert_ended(&rt, &ended, Status::Done, report, "");
+    }
+    Ok(())
+}
+
+#[test]
+fn makes_its_own_load(rt: HostRuntime) -> Result<(), Fail> {
+    let mut source = SureSource::new(whole_capture(rt.alloc())?, 300);
+    let words = ["load", "program=conn", "frames=1", "hosts=1"];
+    let ended = run_over(rt.alloc(), &words, &mut source)?;
+    let report = "frames 1 delivered 1 kept 1\n\
+                  core 0 delivered 1 carried 1 recovered 0 skipped 0\n\
+                  flows 1\n\
+                  verdict SYN_SENT 1\nverdict SYN_RECV 0\nverdict ESTABLISHED 0\nverdict FIN_WAIT 0\n\
+                  verdict LAST_ACK 0\nverdict TIME_WAIT 0\nverdict CLOSED 0\nverdict INVALID 0\nverdict OTHER 0\n";
+    assert_ended(&rt, &ended, Status::Done, report, "");
+    assert_eq!(rt; source.read(&mut [0; 300]), Ok(256));
+    Ok(())
+}
+
+#[test]
+fn names_the_verdicts_of_a_program(rt: HostRuntime) -> Result<(), Fail> {
+    let names = names_of::<Bucket>(rt.alloc())?;
+    assert_eq!(rt; names.len(), 3);
+    Ok(())
+}
+
+#[test]
 fn tells_each_status(rt: HostRuntime) -> Result<(), Fail> {
     let fault = WordFault {
-        word: 1,
-        cause: WordCause::NotBuilt,
+        word: 2,
+        cause: WordCause::Missing,
     };
     let long = CaptureError::LongRecord {
         number: 2,
@@ -294,7 +385,7 @@ fn tells_each_status(rt: HostRuntime) -> Result<(), Fail> {
     };
     let cases: [(Status, u8, &str); 12] = [
         (Status::Done, 0, ""),
-        (Status::Words(fault), 1, "scr: word 1: NotBuilt\n"),
+        (Status::Words(fault), 1, "scr: word 2: Missing\n"),
         (
             Status::Capture(CaptureError::ShortHeader),
             2,

@@ -1,0 +1,61 @@
+use Rattle.std.proofs.Common.{◌≡◌, ◌++◌, ◌∷◌, [], List, All, ◌<◌, length, ◌∙◌, ap, arith, sym, subst}
+use Rattle.scr_plan.specs.declared.given.Given.{Given}
+use Rattle.scr_frame.specs.Fields.{fields}
+use Rattle.scr_pcap.specs.State.{ReaderState}
+use Rattle.scr_replica.specs.OneCore.{undivided}
+use Rattle.scr_replica.proofs.Undivided.{verdicts-none, verdicts-push, length-verdicts}
+use Rattle.scr_replica.proofs.Counted.{verdicts-named}
+use Rattle.scr_run.specs.RunReport.{rows_of}
+use Rattle.scr_run.proofs.Progress.{HasTaken-none, HasTaken-more, length-rows_of}
+use Rattle.scr_run.proofs.plain.one_core_answer.Goals as goal
+
+pub loop-core-init : goal.loop-core-init
+loop-core-init g c = record {
+  taken = HasTaken-none (g.P.Program.row_of c.args.settings.now) _ _ _ _ _ c.in_ok-reader.ensures.header c.in_ok-reader.ensures.fresh.none_taken
+      (c.new.ensures.items ∙ sym (verdicts-none (g.P.Program.verdict_after c.args.settings.now)), c.in_ok-fresh.ensures);
+  reading = c.in_ok-reader.ensures.fresh.reading;
+  few = omega (arith, c.in_ok-reader.ensures.fresh.none_taken);
+  faults = c.begin.ensures.later;
+}
+
+pub loop-core-preserved : goal.loop-core-preserved
+loop-core-preserved g c =
+    let was = c.loop-core.invariant in
+    let took = rw c.in-Some.is at c.in_ok-info.ensures.record in
+    let state = took.1 in
+    let counted : c.next.new.self.taken ≡ c.in-Some.info.number = ap (λ (s : ReaderState). s.taken) state ∙ sym took.2 in
+    let verdict_after = g.P.Program.verdict_after c.args.settings.now in
+    let row = g.P.Program.row_of c.args.settings.now (fields c.bytes.result.now) c.in-Some.info.time in
+    record {
+      taken = HasTaken-more (g.P.Program.row_of c.args.settings.now) _ _ _ _ _ _ _ _ _ _ _ _ was.taken c.bytes.ensures.bytes took.2 took.4
+          c.next.ensures.format counted
+          (λ rows holds number. (
+            c.in_ok-take.ensures.given rows holds.1 ∙ ap (λ (t : List Given). t ++ record { number = c.in-Some.info.number; verdict = verdict_after rows row } ∷ []) holds.0 ∙ sym (verdicts-push verdict_after rows row c.in-Some.info.number number),
+            c.in_ok-take.ensures.stands rows holds.1,
+          ));
+      reading = ap (λ (s : ReaderState). s.progress) state ∙ was.reading;
+      few = c.next.ensures.within;
+      faults = omega (arith, was.faults, c.next.ensures.later);
+    }
+
+pub returns-clause-few : goal.returns-clause-few
+returns-clause-few g c =
+    let taken = c.loop-core.invariant.taken in
+    let rows = rows_of (g.P.Program.row_of c.args.settings.now) taken.records in
+    omega (
+      arith,
+      ap length taken.holds.0,
+      length-verdicts (g.P.Program.verdict_after c.args.settings.now) rows,
+      length-rows_of (g.P.Program.row_of c.args.settings.now) taken.records,
+      taken.count,
+      c.loop-core.invariant.few,
+    )
+
+pub returns-clause-named : goal.returns-clause-named
+returns-clause-named g c =
+    let taken = c.loop-core.invariant.taken in
+    let rows = rows_of (g.P.Program.row_of c.args.settings.now) taken.records in
+    let names = length g.P.Program.verdict_names in
+    let laws = g.met.P.Program g.world.𝓛 g.world.𝓜 g.world.𝓡 ((λ s x. x), (λ x. x), (λ x. x), λ x. x) in
+    subst (λ (given : List Given). All (λ given. given.verdict.0 < names) given) (sym taken.holds.0)
+    (verdicts-named (g.P.Program.verdict_after c.args.settings.now) (undivided rows) names (laws.is_named c.args.settings.now))

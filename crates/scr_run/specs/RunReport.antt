@@ -1,0 +1,50 @@
+-- The report of a run, from the records of its capture: the one-core answer over the packets that delivered frames
+-- carry, and the counters. The lines of cores depend on cores, history and drop list; all else on history and drop list
+-- alone.
+use Rattle.std.specs.Prelude.{ℕ, Bool, true, false, List, [], map}
+use Rattle.std.specs.List.{range_with_len}
+use Rattle.scr_base.specs.declared.row.Row.{Row}
+use Rattle.scr_frame.specs.declared.parsed.Parsed.{Parsed}
+use Rattle.scr_frame.specs.Fields.{fields}
+use Rattle.scr_pcap.specs.Records.{Record}
+use Rattle.scr_plan.specs.Counts.{delivered_count, kept_count}
+use Rattle.scr_plan.specs.Plan.{Plan, frame_count, plan_counts}
+use Rattle.scr_replica.specs.OneCore.{verdicts, entries, undivided}
+use Rattle.scr_report.specs.Outcome.{Outcome, report_of, report_text}
+use Rattle.scr_run.specs.declared.command_words.settings.Command.{Command}
+use Rattle.scr_run.specs.declared.command_words.settings.Command.TheVariants.{Run, Plain, Load}
+use Rattle.scr_run.specs.declared.command_words.settings.Shape.{Shape}
+use Rattle.scr_run.specs.Rules.{Rules}
+
+-- the rows of these records
+abbrev pub rows_of : (Parsed → ℕ → Row) → List Record → List Row
+rows_of row_of records = map (λ r. row_of (fields r.content) r.time) records
+
+-- the plan of a run with this shape
+abbrev pub shaped : Shape → List Row → Plan
+shaped shape rows = record { rows = rows; cores = shape.cores; history = shape.history; drops = shape.drops }
+
+-- what comes of a plan
+abbrev pub outcome_of : Rules → Plan → Outcome
+outcome_of rules plan = report_of rules.names (verdicts rules.verdict_after plan)
+    (frame_count plan)
+    (delivered_count plan.drops (frame_count plan))
+    (kept_count plan.drops plan.history (frame_count plan))
+    (map (plan_counts plan) (range_with_len 0 plan.cores))
+    (entries rules.count_after plan)
+
+-- the report of a run with this shape, with the lines of the verdicts or without
+abbrev pub shaped_text : Rules → Shape → Bool → List Record → List ℕ
+shaped_text rules shape with_verdicts records =
+    report_text rules.names (outcome_of rules (shaped shape (rows_of rules.row_of records))) with_verdicts
+
+-- the report without cores: every frame is delivered, and every packet kept
+abbrev pub plain_text : Rules → List Record → List ℕ
+plain_text rules records =
+    report_text rules.names (record (outcome_of rules (undivided (rows_of rules.row_of records))) { cores = [] }) true
+
+-- the report that a command writes
+abbrev pub text_by : Rules → Command → Shape → List Record → List ℕ
+text_by rules Run shape records = shaped_text rules shape true records
+text_by rules Plain shape records = plain_text rules records
+text_by rules Load shape records = shaped_text rules shape false records
