@@ -42,8 +42,8 @@ def outcome(program, words, data=b"", **streams):
 
 def shown(words):
     """The words as text, cut where they are very long."""
-    texts = [os.fsdecode(word) if isinstance(word, bytes) else word for word in words]
-    return " ".join(repr(text[:200]) if set(text) & set(" '\"\\") or not text.isascii() or not text else text[:200] for text in texts)
+    texts = [(os.fsdecode(word) if isinstance(word, bytes) else word)[:200] for word in words]
+    return " ".join(text if text.isascii() and text.isprintable() and text and " " not in text else repr(text) for text in texts)
 
 
 def difference(found, wanted, words=()):
@@ -91,11 +91,12 @@ def same(program, calls, data=b""):
     for words, found in others:
         if found != first[1]:
             return f"like: {first[0]}\n" + difference(found, first[1], words.split())
-    return None if first[1].status == 0 else f"words: {first[0]}\nwanted: status 0\ncame:   status {first[1].status}, {first[1].err[:200]!r}"
+    status, _, err = first[1]
+    return None if status == 0 else f"words: {first[0]}\nwanted: status 0\ncame:   status {status}, {err[:200]!r}"
 
 
 def good(text):
-    """The outcome of a call that ends well, from its report; lines that begin alike may stand in it with spaces in front."""
+    """The outcome of a call that ends well, from its report, whose lines may be indented here."""
     return Outcome(0, "".join(f"{line.strip()}\n" for line in text.strip().splitlines()).encode(), b"")
 
 

@@ -1,4 +1,4 @@
-"""Random captures, the same for the same seed: frames of all kinds from a few ends, times that go back, all forms of a capture."""
+"""Random captures, the same for the same seed: frames of all kinds from a few ends, in all forms of a capture."""
 import random
 
 from captures import (IPV4, MICROSECONDS, NANOSECONDS, TCP, arp, ethernet, header, ipv4, ipv6, put, record, tagged, tcp, udp,
@@ -65,7 +65,8 @@ def with_options(dice):
 def with_length(dice):
     """A frame whose IP header says another length."""
     frame = dice.choice([datagram, segment])(dice)
-    return put(frame, 18 if frame[12:14] == b"\x86\xdd" else 16, dice.choice([0, 7, 8, 19, 20, 27, 28, 39, 40, 1_500, 65_535]).to_bytes(2, "big"))
+    return put(frame, 18 if frame[12:14] == b"\x86\xdd" else 16,
+               dice.choice([0, 7, 8, 19, 20, 27, 28, 39, 40, 1_500, 65_535]).to_bytes(2, "big"))
 
 
 def cut(dice):
@@ -109,7 +110,9 @@ def times(dice, unit):
         seconds, fraction = divmod(now, 1_000_000)
         if dice.random() < 0.01:
             seconds, fraction = dice.choice([(2**32 - 1, 2**32 - 1), (seconds, 2**32 - 1), (0, 1_000_000)])
-        yield seconds, min(fraction * (1_000 if unit == NANOSECONDS else 1) + (dice.randrange(1_000) if unit == NANOSECONDS else 0), 2**32 - 1)
+        if unit == NANOSECONDS:
+            fraction = fraction * 1_000 + dice.randrange(1_000)
+        yield seconds, min(fraction, 2**32 - 1)
 
 
 def capture(seed, frames, different=None):

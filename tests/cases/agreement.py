@@ -1,9 +1,12 @@
-"""Calls that must agree with each other, by the program's own outputs. The model is asked for captures and for who carries what alone."""
+"""Calls that must agree with each other, by the program's own outputs.
+
+The model makes captures here, and says which frames carry which packets; it isn't asked for a verdict.
+"""
 from captures import header, record
 from model import generator, plan
 from model.reading import NANOSECONDS, header as header_of, records
 from model.words import drop_list as drops_of
-from running import Outcome, difference, good, outcome, same, shown
+from running import difference, outcome, same, shown
 from traffic import capture, drop_list, settings
 
 PROGRAMS = ("ddos", "heavy", "bucket", "knock", "conn")
@@ -29,7 +32,8 @@ def whatever_the_schedule(program):
     for seed, chosen in enumerate(PROGRAMS * 2, 200):
         data, call = capture(seed, 700), f"run program={chosen} {settings(seed, chosen)} cores={2 + seed % 15}"
         for drop in ("", " drop=" + drop_list(seed, 700), f" history={seed % 3} drop=2-700/3"):
-            calls = [f"{call}{drop}{more}" for more in ("", " threads=no", " threads=yes", " ring=1", " ring=1 threads=no", " ring=3", " ring=1024", " ring=4096")]
+            calls = [f"{call}{drop}{more}" for more in ("", " threads=no", " threads=yes", " ring=1", " ring=1 threads=no",
+                                                        " ring=3", " ring=1024", " ring=4096")]
             yield f"seed {seed},{drop}", same(program, calls, data)
 
 
@@ -42,8 +46,8 @@ def plain_over_the_kept(program):
         planned = plan.Plan(frames, cores, history, drops_of(drop.encode())[0])
         kept = sorted(planned.kept)
         order, unit = header_of(data)
-        chosen_records = [records(data)[number - 1] for number in kept]
-        fewer = header(unit, order="<" if order == "little" else ">") + b"".join(again(found, order, unit) for found in chosen_records)
+        fewer = header(unit, order="<" if order == "little" else ">")
+        fewer += b"".join(again(found, order, unit) for number, found in enumerate(records(data), 1) if number in planned.kept)
         plainly = outcome(program, f"plain program={chosen} {own}".split(), fewer).out.decode().splitlines()
         verdicts = {kept[int(line.split()[0]) - 1]: line.split()[1] for line in plainly if line[0].isdigit()}
         words = f"run program={chosen} {own} cores={cores} history={history} drop={drop}".split()
@@ -51,8 +55,8 @@ def plain_over_the_kept(program):
         found = [line for line in lines if line[0].isdigit()]
         wanted = [f"{number} {verdicts.get(number)}" for number in planned.delivered]
         flows = [[line for line in some if line.startswith("flows")] for some in (lines, plainly)]
-        wrong = None if (found, flows[0]) == (wanted, flows[1]) and lines else f"words: {shown(words)}\nthe verdicts or flows differ"
-        yield f"seed {seed}", wrong
+        agree = lines and (found, flows[0]) == (wanted, flows[1])
+        yield f"seed {seed}", None if agree else f"words: {shown(words)}\nthe verdicts or flows differ"
 
 
 def again(found, order, unit):
@@ -66,7 +70,8 @@ def load_as_run(program):
     """`load` is a run over the capture that it makes, without the verdict lines."""
     for seed, chosen in enumerate(PROGRAMS * 2, 400):
         start, frames, hosts = seed * 7_919, 900 + seed, 1 + seed % 40
-        more = f"program={chosen} {settings(seed, chosen)} cores={1 + seed % 16} history={seed % 9} drop={drop_list(seed, frames)}"
+        more = f"program={chosen} {settings(seed, chosen)} cores={1 + seed % 16} history={seed % 9}"
+        more += f" drop={drop_list(seed, frames)}"
         words = f"load {more} start={start} frames={frames} hosts={hosts}".split()
         ran = outcome(program, f"run {more}".split(), generator.capture(start, frames, hosts))
         wanted = ran._replace(out=b"".join(line for line in ran.out.splitlines(True) if not line[:1].isdigit()))

@@ -2,9 +2,10 @@
 import os
 
 from captures import MICROSECONDS, NANOSECONDS, arp, capture, header, put, record, tagged, tcp, udp, udp6
-from running import Outcome, compare, fault, good
+from running import Outcome, compare, good
 
-from .known import (ACK, FIN_ACK, FOUR, FOUR_REPORT, HEAVY, OTHER_SOURCE, PUSH, SOURCE, STATES, SYN, SYN_ACK, one_core, plain, timed,
+from .known import (ACK, FIN_ACK, FOUR, FOUR_REPORT, HEAVY, OTHER_SOURCE, PUSH, SOURCE, STATES, SYN, SYN_ACK, one_core, plain,
+                    timed,
                     whole)
 
 TOP = os.path.dirname(os.path.dirname(os.path.dirname(os.path.realpath(__file__))))
@@ -67,13 +68,15 @@ def reports(program):
     yield "other order of words, an empty drop list", compare(program, "run threshold=2 program=ddos drop=", FOUR, FOUR_OUTCOME)
     yield "a drop behind the capture", compare(program, f"{run} drop=9999", FOUR, FOUR_OUTCOME)
     yield "by the plain program", compare(program, "plain program=ddos threshold=2", FOUR, good(WITHOUT_CORES))
-    yield "no frames, sixteen cores", compare(program, "run program=ddos cores=16", header(), whole("", (0, 0, 0), [(0, 0, 0, 0)] * 16, 0))
+    yield "no frames, sixteen cores", compare(program, "run program=ddos cores=16", header(),
+                                              whole("", (0, 0, 0), [(0, 0, 0, 0)] * 16, 0))
     yield "no frames, plain", compare(program, "plain program=conn", header(), whole("", (0, 0, 0), [], 0, STATES))
     with open(f"{TOP}/examples/flood.pcap", "rb") as file:
         verdicts = "OTHER" + " PASS" * 8 + " DROP PASS DROP DROP OTHER DROP DROP PASS DROP DROP PASS DROP DROP"
         yield "the example", compare(program, "run program=ddos threshold=5", file.read(), one_core(verdicts, 4))
     families = capture([SOURCE, udp6("::10.0.0.1")] * 2)
-    yield "one number in two families", compare(program, "run program=ddos threshold=1", families, one_core("PASS PASS DROP DROP", 2))
+    yield "one number in two families", compare(program, "run program=ddos threshold=1", families,
+                                                one_core("PASS PASS DROP DROP", 2))
 
 
 def cores(program):
@@ -146,9 +149,10 @@ def programs(program):
     right, wrong = knocks(7000, 7000, 8000, 9000, 22), knocks(7000, 9000, 8000, 9000, 22)
     yield "knocking right", compare(program, "run program=knock", right, one_core("DROP DROP DROP DROP PASS", 1))
     yield "knocking wrong", compare(program, "run program=knock", wrong, one_core("DROP " * 5, 1))
-    yield "bytes of a flow", compare(program, "run program=heavy bytes=60", capture([SOURCE] * 3), one_core("PASS PASS HEAVY", 1, HEAVY))
-    for name, last, verdict in (("at its limit of idleness", answered(SYN_ACK), "SYN_RECV"), ("idle too long", sent(ACK), "INVALID"),
-                                ("idle too long, opened anew", sent(SYN), "SYN_SENT"),
+    yield "bytes of a flow", compare(program, "run program=heavy bytes=60", capture([SOURCE] * 3),
+                                     one_core("PASS PASS HEAVY", 1, HEAVY))
+    for name, last, verdict in (("at its limit of idleness", answered(SYN_ACK), "SYN_RECV"),
+                                ("idle too long", sent(ACK), "INVALID"), ("idle too long, opened anew", sent(SYN), "SYN_SENT"),
                                 ("idle too long, opened from the other end", answered(SYN), "SYN_SENT")):
         at = 3_000_000 if verdict == "SYN_RECV" else 3_000_001
         data = timed([sent(SYN), answered(SYN_ACK), last], [1_000_000, 2_000_000, at])

@@ -1,8 +1,8 @@
 """Captures that can't be read to their end, and the limits of those that can."""
 from captures import capture, header, put, record
-from running import Outcome, compare, fault
+from running import compare, difference, fault, good, outcome
 
-from .known import FOUR, SOURCE, one_core, plain, whole
+from .known import FOUR, SOURCE, one_core, plain
 
 LONGEST_FRAME, MOST_RECORDS = 262_144, 1_000_000
 RUN, PLAIN = "run program=ddos threshold=2", "plain program=ddos threshold=2"
@@ -67,7 +67,9 @@ def lengths(program):
             (3, 262_145, "record 3: LongRecord 262145"), (1, 262_144, "record 1: ShortRecord"),
             (1, 0, "record 2: LongRecord 16777216"), (4, 43, "record 4: ShortRecord"), (4, 41, "record 5: ShortRecord")):
         for words in (RUN, PLAIN, f"{RUN} cores=3"):
-            yield f"captured length {captured} in record {number}, {words}", compare(program, words, with_captured(number, captured), fault(2, cause))
+            yield f"captured length {captured} in record {number}, {words}", compare(program, words,
+                                                                                     with_captured(number, captured),
+                                                                                     fault(2, cause))
     big = header(order=">") + record(SOURCE, captured=262_145, order=">")
     yield "a long record, big-endian", compare(program, RUN, big, fault(2, "record 1: LongRecord 262145"))
     alone = header() + record(b"", 1, captured=262_145)
@@ -90,15 +92,9 @@ def record_limit(program):
     yield "a record behind them", compare(program, f"{RUN} cores=2", more, fault(6, "more than 1000000 records"))
     yield "a record behind them, plain", compare(program, PLAIN, more, fault(6, "more than 1000000 records"))
     yield "the last of them cut", compare(program, RUN, data[:-1], fault(2, "record 1000000: ShortRecord"))
+    # The model isn't asked about these, since it would take long.
     every = MOST_RECORDS
     made = "load program=ddos frames=1000000 hosts=1 threshold=0 history=0"
     lines = [f"frames {every} delivered {every} kept {every}", f"core 0 delivered {every} carried {every} recovered 0 skipped 0",
              "flows 2", "verdict PASS 0", f"verdict DROP {every}", "verdict OTHER 0"]
-    yield "a million frames by load", known_only(program, made, lines)
-
-
-def known_only(program, words, lines):
-    """A call that the model isn't asked about, since it would take long."""
-    from running import difference, outcome
-    wanted = Outcome(0, "".join(f"{line}\n" for line in lines).encode(), b"")
-    return difference(outcome(program, words.split()), wanted, words.split())
+    yield "a million frames by load", difference(outcome(program, made.split()), good("\n".join(lines)), made.split())

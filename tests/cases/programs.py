@@ -1,8 +1,9 @@
 """The rules of the five programs: defaults, bounds, times, and full tables."""
 from captures import arp, capture, header, put, record, tcp, udp, udp6
 from running import compare
+from traffic import tcp6
 
-from .known import (ACK, FIN_ACK, HEAVY, OTHER_SOURCE, PUSH, RST, SOURCE, STATES, SYN, SYN_ACK, one_core, plain, timed)
+from .known import (ACK, FIN_ACK, HEAVY, PUSH, RST, SOURCE, STATES, SYN, SYN_ACK, one_core, plain, timed)
 
 SECOND = 1_000_000
 
@@ -22,9 +23,11 @@ def heavy(program):
     thousand = udp("10.0.0.1", data=bytes(972))
     known = one_core("PASS " * 999 + "HEAVY HEAVY", 1, HEAVY)
     yield "the default bytes", compare(program, "run program=heavy", capture([thousand] * 1_001), known)
-    for limit, verdicts in ((1, "HEAVY HEAVY HEAVY"), (28, "HEAVY HEAVY HEAVY"), (29, "PASS HEAVY HEAVY"), (56, "PASS HEAVY HEAVY"),
+    for limit, verdicts in ((1, "HEAVY HEAVY HEAVY"), (28, "HEAVY HEAVY HEAVY"), (29, "PASS HEAVY HEAVY"),
+                            (56, "PASS HEAVY HEAVY"),
                             (57, "PASS PASS HEAVY"), (84, "PASS PASS HEAVY"), (85, "PASS PASS PASS"), (10**12, "PASS PASS PASS")):
-        yield f"bytes={limit}", compare(program, f"run program=heavy bytes={limit}", capture([SOURCE] * 3), one_core(verdicts, 1, HEAVY))
+        yield f"bytes={limit}", compare(program, f"run program=heavy bytes={limit}", capture([SOURCE] * 3),
+                                        one_core(verdicts, 1, HEAVY))
 
 
 def bucket(program):
@@ -35,18 +38,25 @@ def bucket(program):
     known = one_core("PASS " * 100 + "DROP PASS DROP PASS PASS", 1)
     yield "the default rate", compare(program, "run program=bucket", timed([SOURCE] * len(times), times), known)
     for name, words, times, verdicts in (
-            ("part of a token isn't one", "rate=1 burst=1", [0, 999_999, SECOND, 1_999_999, 2 * SECOND], "PASS DROP PASS DROP PASS"),
+            ("part of a token isn't one", "rate=1 burst=1", [0, 999_999, SECOND, 1_999_999, 2 * SECOND],
+             "PASS DROP PASS DROP PASS"),
             ("parts add up", "rate=1 burst=1", [0, 400_000, 800_000, 1_200_000, 1_200_001], "PASS DROP DROP PASS DROP"),
-            ("no more than the burst", "rate=10 burst=2", [0, 0, 0, 9 * SECOND, 9 * SECOND, 9 * SECOND], "PASS PASS DROP PASS PASS DROP"),
-            ("time goes back", "rate=1 burst=1", [5 * SECOND, 3 * SECOND, 4 * SECOND, 5 * SECOND, 6 * SECOND], "PASS DROP DROP DROP PASS"),
+            ("no more than the burst", "rate=10 burst=2", [0, 0, 0, 9 * SECOND, 9 * SECOND, 9 * SECOND],
+             "PASS PASS DROP PASS PASS DROP"),
+            ("time goes back", "rate=1 burst=1", [5 * SECOND, 3 * SECOND, 4 * SECOND, 5 * SECOND, 6 * SECOND],
+             "PASS DROP DROP DROP PASS"),
             ("no rate", "rate=0 burst=1", [0, 2**31 * SECOND], "PASS DROP"),
             ("the greatest rate", "rate=1000000000 burst=1", [7, 7, 8, 8], "PASS DROP PASS DROP"),
+            ("what comes in is 2^32 parts", "rate=65536 burst=1", [0, 2**16], "PASS PASS"),
+            ("what comes in is 2^63 parts", "rate=536870912 burst=1", [0, 2**34], "PASS PASS"),
+            ("what comes in is 2^64 parts", "rate=536870912 burst=1", [0, 2**35], "PASS PASS"),
             ("the greatest rate and burst", "rate=1000000000 burst=1000000000", [0, 2**32 * SECOND - 1], "PASS PASS")):
         known = one_core(verdicts, 1)
         yield name, compare(program, f"run program=bucket {words}", timed([SOURCE] * len(times), times), known)
     last = 2**32 - 1
     data = header() + record(SOURCE, 0, 0) + record(SOURCE, last, last) * 2 + record(SOURCE, last, last - 1)
-    yield "the greatest time", compare(program, "run program=bucket rate=1000000000 burst=1", data, one_core("PASS PASS DROP DROP", 1))
+    yield "the greatest time", compare(program, "run program=bucket rate=1000000000 burst=1", data,
+                                       one_core("PASS PASS DROP DROP", 1))
     nano = header(0xA1B23C4D) + b"".join(record(SOURCE, 1, fraction) for fraction in (999, 1_999, 2_000, 2_999, 3_000))
     yield "nanoseconds are rounded down", compare(
         program, "run program=bucket rate=1000000 burst=1", nano, one_core("PASS PASS PASS DROP PASS", 1))
@@ -69,19 +79,24 @@ def knock(program):
             ("ports=65535,1,00065535", "65535 1 65535 3", "DROP DROP DROP PASS"),
             ("ports=7000,8000,9000", "7000 8000 9000 7000", "DROP DROP DROP PASS")):
         frames = knocks(*map(int, knocked.split()))
-        yield f"{ports} at {knocked}", compare(program, f"run program=knock {ports}".split(), capture(frames), one_core(verdicts, 1))
-    ways = [udp("10.0.0.1", ports=(1, 7000)), tcp("10.0.0.1", "10.0.0.9", (2, 8000)), udp("10.0.0.1", ports=(3, 9000)), tcp("10.0.0.1")]
-    yield "by any protocol, port and destination", compare(program, "run program=knock", capture(ways), one_core("DROP DROP DROP PASS", 1))
+        yield f"{ports} at {knocked}", compare(program, f"run program=knock {ports}".split(), capture(frames),
+                                               one_core(verdicts, 1))
+    ways = [udp("10.0.0.1", ports=(1, 7000)), tcp("10.0.0.1", "10.0.0.9", (2, 8000)), udp("10.0.0.1", ports=(3, 9000)),
+            tcp("10.0.0.1")]
+    yield "by any protocol, port and destination", compare(program, "run program=knock", capture(ways),
+                                                           one_core("DROP DROP DROP PASS", 1))
     turns = [frame for pair in zip(knocks(7000, 8000, 9000, 1), knocks(7000, 9000, 9000, 1, source="10.0.0.2")) for frame in pair]
     yield "two sources in turns", compare(program, "run program=knock", capture(turns), one_core("DROP " * 6 + "PASS DROP", 2))
     families = knocks(7000, 8000) + knocks(9000, 1, make=udp6, source="::10.0.0.1") + knocks(9000, 1)
-    yield "one number in two families", compare(program, "run program=knock", capture(families), one_core("DROP " * 5 + "PASS", 2))
+    yield "one number in two families", compare(program, "run program=knock", capture(families),
+                                                one_core("DROP " * 5 + "PASS", 2))
     between = [*knocks(7000), arp(), *knocks(8000), put(SOURCE, 23, b"\1"), *knocks(9000, 1)]
     known = one_core("DROP OTHER DROP OTHER DROP PASS", 1)
     yield "other kinds between", compare(program, "run program=knock", capture(between), known)
     back = knocks(9000, 8000, 7000)
     yield "a source port is no knock", compare(
-        program, "run program=knock", capture([udp("10.0.0.1", ports=(port, 1)) for port in (7000, 8000, 9000, 1)] + back), one_core("DROP " * 7, 1))
+        program, "run program=knock", capture([udp("10.0.0.1", ports=(port, 1)) for port in (7000, 8000, 9000, 1)] + back),
+        one_core("DROP " * 7, 1))
 
 
 LEFT, RIGHT = ("10.0.0.1", 40_000), ("10.0.0.2", 80)
@@ -89,8 +104,8 @@ LEFT, RIGHT = ("10.0.0.1", 40_000), ("10.0.0.2", 80)
 
 def segments(steps, low_opens=True):
     """The segments of a connection, '>' from its opener and '<' from the other end."""
-    flags = {"S": SYN, "SA": SYN_ACK, "A": ACK, "P": PUSH, "F": FIN_ACK, "f": 0x01, "R": RST, "RA": 0x14, "X": 0x03, "SF": 0x13, "N": 0x00,
-             "PU": 0x28, "SR": 0x06, "SE": 0xC2, "FR": 0x05, "ALL": 0xFF, "SAE": 0xFA}
+    flags = {"S": SYN, "SA": SYN_ACK, "A": ACK, "P": PUSH, "F": FIN_ACK, "f": 0x01, "R": RST, "RA": 0x14, "X": 0x03, "SF": 0x13,
+             "N": 0x00, "PU": 0x28, "SR": 0x06, "SE": 0xC2, "FR": 0x05, "ALL": 0xFF, "SAE": 0xFA}
     one, other = (LEFT, RIGHT) if low_opens else (RIGHT, LEFT)
     for step in steps.split():
         source, destination = (one, other) if step[0] == ">" else (other, one)
@@ -126,7 +141,8 @@ def connections(program):
             yield name, compare(program, "run program=conn", data, one_core(verdicts, flows, STATES))
     for state, steps in TO.items():
         for low_opens in (True, False):
-            data = capture(segments(" ".join(f"{steps} {way}{flag}" for flag in ("R", "SA", "S", "F", "A", "X", "N") for way in "><"), low_opens))
+            data = capture(segments(" ".join(f"{steps} {way}{flag}" for flag in ("R", "SA", "S", "F", "A", "X",
+                                                                                 "N") for way in "><"), low_opens))
             yield f"from {state}", compare(program, "run program=conn", data)
         for flag in ("R", "SA", "S", "F", "A", "X", "N"):
             data = capture(segments(f"{steps} <{flag} >A <A >F")) + record(b"")
@@ -140,12 +156,18 @@ def endpoints(program):
     itself = [tcp("10.0.0.1", "10.0.0.1", (80, 80), flags) for flags in (SYN, SYN_ACK, ACK, FIN_ACK, FIN_ACK, ACK)]
     known = one_core("SYN_SENT INVALID INVALID INVALID INVALID INVALID", 1, STATES)
     yield "an end to itself", compare(program, "run program=conn", capture(itself), known)
-    by_port = [tcp("10.0.0.1", "10.0.0.1", (80, 81), SYN), tcp("10.0.0.1", "10.0.0.1", (81, 80), SYN_ACK), tcp("10.0.0.1", "10.0.0.1", (80, 81), ACK)]
+    by_port = [tcp("10.0.0.1", "10.0.0.1", (80, 81), SYN), tcp("10.0.0.1", "10.0.0.1", (81, 80), SYN_ACK),
+               tcp("10.0.0.1", "10.0.0.1", (80, 81), ACK)]
     yield "ends that differ in the port", compare(
         program, "run program=conn", capture(by_port), one_core("SYN_SENT SYN_RECV ESTABLISHED", 1, STATES))
     crossed = [tcp("10.0.0.1", "10.0.0.2", (1, 2), SYN), tcp("10.0.0.2", "10.0.0.1", (1, 2), SYN_ACK)]
     yield "ports crossed", compare(program, "run program=conn", capture(crossed), one_core("SYN_SENT INVALID", 1, STATES))
-    order = [tcp("9.0.0.1", "10.0.0.1", (2, 1), SYN), tcp("10.0.0.1", "9.0.0.1", (1, 2), SYN_ACK), tcp("9.0.0.1", "10.0.0.1", (2, 1), ACK)]
+    families = [tcp("10.0.0.1", "10.0.0.2", (1, 2), SYN), tcp6("::10.0.0.2", "::10.0.0.1", (2, 1), SYN_ACK),
+                tcp6("::10.0.0.1", "::10.0.0.2", (1, 2), SYN), tcp6("::10.0.0.2", "::10.0.0.1", (2, 1), SYN_ACK)]
+    yield "one number in two families", compare(
+        program, "run program=conn", capture(families), one_core("SYN_SENT INVALID SYN_SENT SYN_RECV", 2, STATES))
+    order = [tcp("9.0.0.1", "10.0.0.1", (2, 1), SYN), tcp("10.0.0.1", "9.0.0.1", (1, 2), SYN_ACK),
+             tcp("9.0.0.1", "10.0.0.1", (2, 1), ACK)]
     yield "the address comes before the port", compare(
         program, "run program=conn", capture(order), one_core("SYN_SENT SYN_RECV ESTABLISHED", 1, STATES))
 
@@ -169,7 +191,7 @@ def idleness(program):
 
 def numbered(numbers):
     """A frame for each number, from a source of its own."""
-    return [udp(f"10.{number >> 16 & 255}.{number >> 8 & 255}.{number & 255}") for number in numbers]
+    return [put(SOURCE, 26, (0x0A000000 + number).to_bytes(4, "big")) for number in numbers]
 
 
 def full_tables(program):
@@ -180,12 +202,14 @@ def full_tables(program):
             ("as many sources as fit, again", [*full, *full], many + "DROP " * most),
             ("one source more, then all again", [*full, most + 1, *full], many + "PASS " + many),
             ("the first is used again and stays", [*full, 1, most + 1, 1, 3, 2], many + "DROP PASS DROP DROP PASS"),
-            ("two new ones drop the first two", [*full, 5_000, 5_001, 5_000, 3, 4, 1, 2], many + "PASS PASS DROP DROP DROP PASS PASS")):
+            ("two new ones drop the first two", [*full, 5_000, 5_001, 5_000, 3, 4, 1, 2],
+             many + "PASS PASS DROP DROP DROP PASS PASS")):
         data = capture(numbered(numbers))
         yield name, compare(program, "run program=ddos threshold=1", data, one_core(verdicts, most))
         yield f"{name}, bucket", compare(program, "plain program=bucket burst=1 rate=0", data, plain(verdicts, most))
     for chosen in ("heavy bytes=29", "knock", "conn"):
-        frames = [tcp(f"10.0.{number >> 8}.{number & 255}", ports=(number % 7, 7_000), flags=SYN) for number in range(1, most + 5)]
+        opening = tcp("10.0.0.0", ports=(7, 7_000), flags=SYN)
+        frames = [put(opening, 26, (0x0A000000 + number).to_bytes(4, "big")) for number in range(1, most + 5)]
         yield f"the default of {chosen}", compare(program, f"run program={chosen}", capture(frames + frames[:3] + frames[5:9]))
     state, numbers = 1, []
     for _ in range(20_000):

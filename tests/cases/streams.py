@@ -12,7 +12,8 @@ from running import Outcome, compare, difference, ended, fault, file_of, outcome
 from .known import FOUR, FOUR_REPORT, OTHER_SOURCE, SOURCE
 
 TOP = os.path.dirname(os.path.dirname(os.path.dirname(os.path.realpath(__file__))))
-RUN, PLAIN, LOAD = "run program=ddos threshold=2".split(), "plain program=ddos threshold=2".split(), "load program=ddos frames=9".split()
+RUN, PLAIN = "run program=ddos threshold=2".split(), "plain program=ddos threshold=2".split()
+LOAD = "load program=ddos frames=9".split()
 BY_PHASES = [*RUN, "cores=3", "threads=no"]
 CALLS = [RUN, PLAIN, [*RUN, "cores=2", "threads=yes"], BY_PHASES]
 
@@ -57,7 +58,8 @@ def unread(program):
     reader, writer = os.pipe()
     yield "load with a pipe that stays open", difference(outcome(program, LOAD, stdin=reader), wanted, LOAD)
     refused = [*RUN, "cores=0"]
-    yield "refused words with a pipe that stays open", difference(outcome(program, refused, stdin=reader), fault(1, "word 4: Range"), refused)
+    yield "refused words with a pipe that stays open", difference(outcome(program, refused, stdin=reader),
+                                                                  fault(1, "word 4: Range"), refused)
     os.close(reader)
     os.close(writer)
 
@@ -72,7 +74,9 @@ def reader_goes_away(program):
             status, err = process.wait(120), process.stderr.read()
         found = Outcome(status, b"", err)
         wrong = difference(found, fault(4, "write fault"), words)
-        yield f"{words}", wrong or (None if answer(words, data).out.startswith(front) and front else f"{front[:99]!r} is no front of the report")
+        if not wrong and not (front and answer(words, data).out.startswith(front)):
+            wrong = f"{front[:99]!r} is no front of the report"
+        yield f"{words}", wrong
 
 
 def streams(program):
@@ -106,6 +110,7 @@ def launcher(_program):
         link = f"{folder}/a link"
         os.symlink(f"{TOP}/scr", link)
         for name, words, data in (("four frames", RUN, FOUR), ("words with spaces and none in them", ["run ", ""], FOUR),
-                                  ("a cut capture", RUN, FOUR[:-1]), ("load", LOAD, b""), ("a fault behind other words", [*RUN, "", "x"], FOUR)):
+                                  ("a cut capture", RUN, FOUR[:-1]), ("load", LOAD, b""),
+                                  ("a fault behind other words", [*RUN, "", "x"], FOUR)):
             yield f"./scr: {name}", difference(outcome(link, words, data, cwd=folder), answer(words, data), words)
         yield "./scr: no standard input", difference(outcome(link, RUN, closed=0), fault(3, "read fault"), RUN)

@@ -11,8 +11,8 @@ from .known import FOUR, FOUR_REPORT, SOURCE
 COMMANDS = ("run", "plain", "load")
 OWN = {"ddos": ["threshold"], "heavy": ["bytes"], "bucket": ["rate", "burst"], "knock": ["ports"], "conn": ["idle"]}
 OF_CORES, OF_LOAD = ["cores", "history", "drop", "ring", "threads"], ["start", "frames", "hosts"]
-SAMPLE = {"flows": "7", "cores": "2", "history": "1", "drop": "3", "ring": "9", "threads": "no", "start": "1", "frames": "3", "hosts": "2",
-          "threshold": "1", "bytes": "1", "rate": "1", "burst": "1", "ports": "1,2,3", "idle": "1"}
+SAMPLE = {"flows": "7", "cores": "2", "history": "1", "drop": "3", "ring": "9", "threads": "no", "start": "1", "frames": "3",
+          "hosts": "2", "threshold": "1", "bytes": "1", "rate": "1", "burst": "1", "ports": "1,2,3", "idle": "1"}
 NINES = "9" * 40
 
 # Lines of words (one space between two), and the line that refuses them.
@@ -153,13 +153,17 @@ def refused_words(program):
               (["run", " program=ddos"], "word 2: UnknownName"), (["run", "program =ddos"], "word 2: UnknownName"),
               (["run", "program= ddos"], "word 2: Program"), (["run", "program=ddos "], "word 2: Program"),
               (["run", "program=ddos\n"], "word 2: Program"), (["run", "program=ddos", "threshold=2 cores=2"], "word 3: Value"),
-              (["run", "program=ddos", "größe=2"], "word 3: UnknownName"), (["run", "program=ddos", "größe"], "word 3: NoEquals"),
-              (["run", "program=ddos", "x" * 100_000], "word 3: NoEquals"), (["run", "program=ddos", "x" * 100_000 + "=1"], "word 3: UnknownName"),
+              (["run", "program=ddos", "größe=2"], "word 3: UnknownName"),
+              (["run", "program=ddos", "größe"], "word 3: NoEquals"),
+              (["run", "program=ddos", "x" * 100_000], "word 3: NoEquals"),
+              (["run", "program=ddos", "x" * 100_000 + "=1"], "word 3: UnknownName"),
               (["run", "program=" + "ddos" * 10_000], "word 2: Program"), (["run", *["x"] * 5_000], "word 2: NoEquals")]
     cases += [(["run", "program=ddos", f"threshold={text}"], "word 3: Value")
-              for text in ("x", "2x", "x2", "-1", "+1", "-0", " 2", "2 ", "\t2", "2\n", "٢", "２", "2²", "1/2", "0b1", NINES + "x")]
+              for text in ("x", "2x", "x2", "-1", "+1", "-0", " 2", "2 ", "\t2", "2\n", "٢", "２", "2²", "1/2", "0b1",
+                           NINES + "x")]
     # Where one argument is no text in UTF-8, the program takes it that there are none.
-    cases += [(words, "word 1: NoCommand") for words in (["run", "program=ddos", b"threshold=\xff"], [b"\xff\xfe"], ["walk", b"\x80"])]
+    cases += [(words, "word 1: NoCommand") for words in (["run", "program=ddos", b"threshold=\xff"], [b"\xff\xfe"],
+                                                         ["walk", b"\x80"])]
     for words, cause in cases:
         yield f"{' '.join(map(str, words))[:60] or 'none'}", compare(program, words, FOUR, fault(1, cause))
 
@@ -180,7 +184,8 @@ def foreign_operands(program):
 
 # One fault of each kind that a word may have under `run program=ddos`, with its cause.
 FAULTS = [("-v", "NoEquals"), ("", "NoEquals"), ("color=red", "UnknownName"), ("=", "UnknownName"), ("rate=5", "NotHere"),
-          ("frames=5", "NotHere"), ("idle=x", "NotHere"), ("program=ddos", "Twice"), ("program=dns", "Twice"), ("threshold=", "Value"),
+          ("frames=5", "NotHere"), ("idle=x", "NotHere"), ("program=ddos", "Twice"), ("program=dns", "Twice"),
+          ("threshold=", "Value"),
           ("flows=x", "Value"), ("threads=maybe", "Value"), ("cores=17", "Range"), ("ring=0", "Range"), ("history=65", "Range"),
           ("drop=1,,2", "Drop Empty at 2"), ("drop=2x", "Drop Digit at 0"), ("drop=1,0", "Drop Zero at 2"),
           ("drop=1000000001", "Drop TooLarge at 0"), ("drop=7-3", "Drop Range at 0")]
@@ -206,7 +211,8 @@ def several_faults(program):
         yield f"{words[2:]}", compare(program, words, FOUR, fault(1, f"word 3: {three[0][1]}"))
     for words, cause in ((["walk", "-v"], "word 1: Command"), (["walk", "program=dns", "color=red"], "word 1: Command"),
                          (["run", "-v", "program=dns"], "word 2: NoEquals"), (["run", "program=dns", "-v"], "word 2: Program"),
-                         (["run", "color=red", "-v"], "word 2: UnknownName"), (["run", "drop=0", "cores=0"], "word 2: Drop Zero at 0"),
+                         (["run", "color=red", "-v"], "word 2: UnknownName"),
+                         (["run", "drop=0", "cores=0"], "word 2: Drop Zero at 0"),
                          (["run", "cores=0", "drop=0"], "word 2: Range")):
         yield f"{words}", compare(program, words, FOUR, fault(1, cause))
 
@@ -250,5 +256,6 @@ def bare_words(program):
         both = ended(start(program, ["run", "program=ddos", "cores=0"], stdin=file))
     yield "a refused word and a malformed capture", difference(both, fault(1, "word 3: Range"))
     four = Outcome(0, FOUR_REPORT, b"")
-    for order in itertools.islice(itertools.permutations(["program=ddos", "threshold=2", "cores=1", "flows=4096", "drop="]), 0, 120, 13):
+    for order in itertools.islice(itertools.permutations(["program=ddos", "threshold=2", "cores=1", "flows=4096", "drop="]), 0,
+                                  120, 13):
         yield f"{order}", compare(program, ["run", *order], FOUR, four)

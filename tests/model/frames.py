@@ -1,4 +1,7 @@
-"""The fields of a frame: Ethernet with at most one IEEE 802.1Q tag, IPv4 (RFC 791), IPv6 (RFC 8200), TCP (RFC 9293), UDP (RFC 768)."""
+"""The fields of a frame.
+
+Ethernet with at most one IEEE 802.1Q tag, IPv4 (RFC 791), IPv6 (RFC 8200), TCP (RFC 9293), UDP (RFC 768).
+"""
 import collections
 
 VLAN, IPV4, IPV6 = b"\x81\x00", b"\x08\x00", b"\x86\xdd"
