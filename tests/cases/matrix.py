@@ -18,8 +18,7 @@ def matrix(program):
         frames = 20 + seed * 37 % 130
         dropped = {"none": "", "few": FEW[seed % len(FEW)], "random": drop_list(seed, frames)}[drops]
         words = ["run", f"program={chosen}", *settings(seed, chosen).split(), f"cores={cores}", f"history={history}",
-                 f"drop={dropped}",
-                 RINGS[seed % len(RINGS)], THREADS[seed % len(THREADS)]]
+                 f"drop={dropped}", RINGS[seed % len(RINGS)], THREADS[seed % len(THREADS)]]
         yield f"seed {seed}", compare(program, list(filter(None, words)), capture(seed, frames))
 
 
@@ -33,7 +32,19 @@ def all_cores(program):
             yield f"seed {seed}", compare(program, words, capture(seed, 300))
 
 
+def turns_of_256(program):
+    """Counts of frames about a multiple of 256, at which every core hears how far the capture is, and drops about it."""
+    seed = 4_000
+    for frames in (255, 256, 257, 258, 511, 512, 513, 769):
+        for drop in ("", f"1-{frames}", "256", "257", "250-262", f"{frames}", f"{frames - 1}-{frames}", f"2-{frames}/2"):
+            chosen, cores, history = PROGRAMS[seed % 5], 1 + seed % 4, (0, 0, 1, 5)[seed % 4]
+            words = f"run program={chosen} {settings(seed, chosen)} cores={cores} history={history} drop={drop} ring={1 + seed % 3}"
+            yield f"seed {seed}", compare(program, words, capture(seed, frames, 40))
+            seed += 1
+
+
 def plain_runs(program):
+    """Short captures, and one of no frames."""
     for seed in range(5_000, 5_060):
         chosen = PROGRAMS[seed % 5]
         yield f"seed {seed}", compare(program, ["plain", f"program={chosen}", *settings(seed, chosen).split()],
@@ -56,6 +67,7 @@ def long_runs(program):
 
 
 def load_runs(program):
+    """Captures that the program makes."""
     for seed, (start, frames, hosts) in enumerate(itertools.product((0, 1, 2**64 - 1, 12_345_678_901_234_567_890),
                                                                     (1, 2, 257, 1_200), (1, 16, 65_536))):
         chosen = PROGRAMS[seed % 5]

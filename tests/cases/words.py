@@ -3,7 +3,6 @@ import itertools
 
 from captures import capture, header
 from model import answer
-from model.words import OPERANDS
 from running import Outcome, compare, difference, ended, fault, file_of, outcome, start
 
 from .known import FOUR, FOUR_REPORT, SOURCE
@@ -217,22 +216,28 @@ def several_faults(program):
         yield f"{words}", compare(program, words, FOUR, fault(1, cause))
 
 
+# A call that takes each number, its least value and its greatest.
+BOUNDS = [
+    ("run program=ddos", "flows", 1, 65_536), ("run program=ddos", "cores", 1, 16), ("run program=ddos", "history", 0, 64),
+    ("run program=ddos", "ring", 1, 4_096), ("load program=ddos", "start", 0, 18_446_744_073_709_551_615),
+    ("load program=ddos", "frames", 0, 1_000_000), ("load program=ddos", "hosts", 1, 65_536),
+    ("run program=ddos", "threshold", 0, 4_294_967_295), ("run program=heavy", "bytes", 1, 1_000_000_000_000),
+    ("plain program=bucket", "rate", 0, 1_000_000_000), ("run program=bucket", "burst", 1, 1_000_000_000),
+    ("plain program=conn", "idle", 1, 10_000_000_000_000),
+]
+
+
 def numbers(program):
     """Each number at its bounds and past them, with zeros in front, and very long."""
     data = capture([SOURCE] * 3)
-    for name, (takers, bounds) in OPERANDS.items():
-        if not bounds or name == "ports":
-            continue
-        least, greatest, _ = bounds
-        owner = takers if isinstance(takers, str) else "ddos"
-        call = ["load" if takers == ("load",) else "run", f"program={owner}"]
+    for call, name, least, greatest in BOUNDS:
+        call = call.split()
         inside = [str(least), "0" * 40 + str(least), "000" + str(least + 1), str(greatest), "0" * 40 + str(greatest)]
-        if name == "frames":
-            inside = inside[:3]
-        for text in inside:
+        # (the greatest count of frames is tried elsewhere)
+        for text in inside[:3] if name == "frames" else inside:
             words = [*call, f"{name}={text}"]
-            assert answer(words, data).status == 0, words
-            yield f"{name}={text}", compare(program, words, data)
+            wrong = None if answer(words, data).status == 0 else "the model errs: it refuses it"
+            yield f"{name}={text}", wrong or compare(program, words, data)
         outside = [str(greatest + 1), NINES, "0" * 40 + str(greatest + 1), str(greatest + 2**64), "1" + "0" * 5_000]
         outside += [str(least - 1), "0" * 40 + str(least - 1), "0"] if least else []
         for text in outside:
