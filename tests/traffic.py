@@ -87,7 +87,8 @@ def other_protocol(dice):
 
 
 def no_packet(dice):
-    return dice.choice([b"", bytes(13), arp(), ethernet(IPV4, b""), bytes(dice.randrange(256) for _ in range(60)), tagged(tagged(udp("10.0.0.1")))])
+    noise = bytes(dice.randrange(256) for _ in range(60))
+    return dice.choice([b"", bytes(13), arp(), ethernet(IPV4, b""), noise, tagged(tagged(udp("10.0.0.1")))])
 
 
 FORMS = [datagram] * 8 + [segment] * 3 + [fragment, with_options, with_length, cut, damaged, damaged, other_protocol, no_packet]

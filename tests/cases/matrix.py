@@ -38,7 +38,8 @@ def turns_of_256(program):
     for frames in (255, 256, 257, 258, 511, 512, 513, 769):
         for drop in ("", f"1-{frames}", "256", "257", "250-262", f"{frames}", f"{frames - 1}-{frames}", f"2-{frames}/2"):
             chosen, cores, history = PROGRAMS[seed % 5], 1 + seed % 4, (0, 0, 1, 5)[seed % 4]
-            words = f"run program={chosen} {settings(seed, chosen)} cores={cores} history={history} drop={drop} ring={1 + seed % 3}"
+            words = f"run program={chosen} {settings(seed, chosen)} cores={cores} history={history} drop={drop}"
+            words += f" ring={1 + seed % 3}"
             yield f"seed {seed}", compare(program, words, capture(seed, frames, 40))
             seed += 1
 

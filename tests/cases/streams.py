@@ -24,21 +24,23 @@ def broken(program):
     long = capture([SOURCE] * 20_000)
     for words in CALLS:
         folder = os.open("/", os.O_RDONLY)
-        yield f"a folder as standard input: {words}", difference(outcome(program, words, stdin=folder), read, words)
+        yield f"a folder as standard input: {' '.join(words)}", difference(outcome(program, words, stdin=folder), read, words)
         os.close(folder)
-        yield f"no standard input: {words}", difference(outcome(program, words, closed=0), read, words)
-        yield f"no standard output: {words}", difference(outcome(program, words, FOUR, closed=1), write, words)
+        yield f"no standard input: {' '.join(words)}", difference(outcome(program, words, closed=0), read, words)
+        yield f"no standard output: {' '.join(words)}", difference(outcome(program, words, FOUR, closed=1), write, words)
     for words in [*CALLS, LOAD]:
         with open("/dev/full", "wb") as full:
             for name, data in (("a report", FOUR), ("a long report", long), ("a report of no frames", header())):
-                yield f"{name} on a full device: {words}", difference(outcome(program, words, data, stdout=full), write, words)
+                found = outcome(program, words, data, stdout=full)
+                yield f"{name} on a full device: {' '.join(words)}", difference(found, write, words)
             if words != LOAD:
                 cut = outcome(program, words, FOUR[:-1], stdout=full)
-                yield f"a cut capture, with a full device: {words}", difference(cut, fault(2, "record 4: ShortRecord"), words)
+                malformed = fault(2, "record 4: ShortRecord")
+                yield f"a cut capture, with a full device: {' '.join(words)}", difference(cut, malformed, words)
         for name, data in (("a pipe that nobody reads", FOUR), ("a pipe that nobody reads, a long report", long)):
             reader, writer = os.pipe()
             os.close(reader)
-            yield f"{name}: {words}", difference(outcome(program, words, data, stdout=writer), write, words)
+            yield f"{name}: {' '.join(words)}", difference(outcome(program, words, data, stdout=writer), write, words)
             os.close(writer)
     silent = Outcome(2, b"", b"")
     yield "a cut capture, no standard error", difference(outcome(program, RUN, FOUR[:-1], closed=2), silent, RUN)
@@ -76,7 +78,7 @@ def reader_goes_away(program):
         wrong = difference(found, fault(4, "write fault"), words)
         if not wrong and not (front and answer(words, data).out.startswith(front)):
             wrong = f"{front[:99]!r} is no front of the report"
-        yield f"{words}", wrong
+        yield " ".join(words), wrong
 
 
 def streams(program):
@@ -101,7 +103,7 @@ def streams(program):
         yield f"a capture that comes in pieces of {size} bytes", difference(ended(process), Outcome(0, FOUR_REPORT, b""), RUN)
     for words in ([*RUN], PLAIN, [*RUN, "cores=3"]):
         found = ended(start(program, words, stdin=subprocess.PIPE), long)
-        yield f"a long capture from a pipe: {words}", difference(found, answer(words, long), words)
+        yield f"a long capture from a pipe: {' '.join(words)}", difference(found, answer(words, long), words)
 
 
 def launcher(_program):
