@@ -4,7 +4,7 @@ import os
 import subprocess
 import tempfile
 
-from model import Outcome, answer
+from model import Outcome, answer, fault
 
 SECONDS = 120
 
@@ -21,6 +21,7 @@ def start(program, words, closed=None, **streams):
     """Starts the program; closed is the number of a stream that it doesn't get."""
     close = None if closed is None else lambda: os.close(closed)
     streams = {"stdout": subprocess.PIPE, "stderr": subprocess.PIPE, **streams}
+    words = [word.encode() if isinstance(word, str) else word for word in words]
     return subprocess.Popen([program, *words], preexec_fn=close, **streams)
 
 
@@ -98,8 +99,3 @@ def same(program, calls, data=b""):
 def good(text):
     """The outcome of a call that ends well, from its report, whose lines may be indented here."""
     return Outcome(0, "".join(f"{line.strip()}\n" for line in text.strip().splitlines()).encode(), b"")
-
-
-def fault(status, cause):
-    """The outcome of a call that ends with a fault."""
-    return Outcome(status, b"", f"scr: {cause}\n".encode())

@@ -5,8 +5,7 @@ from captures import MICROSECONDS, NANOSECONDS, arp, capture, header, put, recor
 from running import Outcome, compare, good
 
 from .known import (ACK, FIN_ACK, FOUR, FOUR_REPORT, HEAVY, OTHER_SOURCE, PUSH, SOURCE, STATES, SYN, SYN_ACK, one_core, plain,
-                    timed,
-                    whole)
+                    timed, whole)
 
 TOP = os.path.dirname(os.path.dirname(os.path.dirname(os.path.realpath(__file__))))
 FOUR_OUTCOME = Outcome(0, FOUR_REPORT, b"")

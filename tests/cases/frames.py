@@ -118,7 +118,7 @@ def flows(program):
         data = capture([first, other, first, other])
         yield f"bucket: {name}", compare(program, "run program=bucket burst=1 rate=0", data, one_core("PASS PASS DROP DROP", 2))
         yield f"heavy: {name}", compare(program, "run program=heavy bytes=41", data)
-        yield f"heavy: {name}, a million bytes", compare(program, "plain program=heavy", data, None)
+        yield f"heavy: {name}, a million bytes", compare(program, "plain program=heavy", data)
     ends6 = ["2001:db8::1", "2001:db8::2", "2001:db8::3", "2001:db8:0:1::2", "a001:db8::1"]
     pairs6 = [udp6(source, destination, (1, 2)) for source in ends6 for destination in ends6]
     known = one_core("PASS " * 25 + "DROP " * 25, 25)
