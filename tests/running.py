@@ -4,7 +4,7 @@ import os
 import subprocess
 import tempfile
 
-from model import Outcome, answer, fault
+from model import Outcome, answer
 
 SECONDS = 120
 

@@ -1,7 +1,7 @@
 """Drop lists: what they spell, and the first piece that is refused."""
 from captures import capture
-from model import answer
-from running import compare, fault
+from model import answer, fault
+from running import compare
 
 from .known import OTHER_SOURCE, SOURCE
 

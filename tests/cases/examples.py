@@ -2,7 +2,8 @@
 import os
 
 from captures import MICROSECONDS, NANOSECONDS, arp, capture, header, put, record, tagged, tcp, udp, udp6
-from running import Outcome, compare, good
+from model import Outcome
+from running import compare, good
 
 from .known import (ACK, FIN_ACK, FOUR, FOUR_REPORT, HEAVY, OTHER_SOURCE, PUSH, SOURCE, STATES, SYN, SYN_ACK, one_core, plain,
                     timed, whole)

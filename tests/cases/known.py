@@ -1,6 +1,6 @@
 """Captures that many cases use, and reports written down from the numbers that stand in them."""
 from captures import capture, header, record, udp
-from running import Outcome
+from model import Outcome
 
 SOURCE, OTHER_SOURCE = udp("10.0.0.1"), udp("10.0.0.3")
 FOUR = capture([SOURCE] * 4)

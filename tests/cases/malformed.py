@@ -1,6 +1,7 @@
 """Captures that can't be read to their end, and the limits of those that can."""
 from captures import capture, header, put, record
-from running import compare, difference, fault, good, outcome
+from model import fault
+from running import compare, difference, good, outcome
 
 from .known import FOUR, SOURCE, one_core, plain
 

@@ -6,8 +6,8 @@ import tempfile
 import time
 
 from captures import arp, capture, header, udp6
-from model import answer
-from running import Outcome, compare, difference, ended, fault, file_of, outcome, start
+from model import Outcome, answer, fault
+from running import compare, difference, ended, file_of, outcome, start
 
 from .known import FOUR, FOUR_REPORT, OTHER_SOURCE, SOURCE
 

@@ -2,8 +2,8 @@
 import itertools
 
 from captures import capture, header
-from model import answer
-from running import Outcome, compare, difference, ended, fault, file_of, outcome, start
+from model import Outcome, answer, fault
+from running import compare, difference, ended, file_of, outcome, start
 
 from .known import FOUR, FOUR_REPORT, SOURCE
 
