@@ -1,12 +1,14 @@
 """Runs the program, and says how what came differs from what was wanted."""
 import contextlib
 import os
+import resource
 import subprocess
 import tempfile
 
 from model import Outcome, answer
 
 SECONDS = 120
+NEVER = f"none after {SECONDS} seconds"
 
 
 @contextlib.contextmanager
@@ -17,12 +19,17 @@ def file_of(data):
         yield file
 
 
-def start(program, words, closed=None, **streams):
-    """Starts the program; closed is the number of a stream that it doesn't get."""
-    close = None if closed is None else lambda: os.close(closed)
+def start(program, words, closed=None, memory=None, **streams):
+    """Starts the program; closed is the number of a stream that it doesn't get, memory the bytes that it may have at most."""
+    def prepare():
+        if closed is not None:
+            os.close(closed)
+        if memory:
+            resource.setrlimit(resource.RLIMIT_AS, (memory, memory))
+
     streams = {"stdout": subprocess.PIPE, "stderr": subprocess.PIPE, **streams}
     words = [word.encode() if isinstance(word, str) else word for word in words]
-    return subprocess.Popen([program, *words], preexec_fn=close, **streams)
+    return subprocess.Popen([program, *words], preexec_fn=prepare if closed is not None or memory else None, **streams)
 
 
 def ended(process, feed=None):
@@ -32,7 +39,7 @@ def ended(process, feed=None):
             out, err = process.communicate(feed, timeout=SECONDS)
         except subprocess.TimeoutExpired:
             process.kill()
-            return Outcome(f"none after {SECONDS} seconds", b"", b"")
+            return Outcome(NEVER, b"", b"")
     return Outcome(process.returncode, out or b"", err or b"")
 
 

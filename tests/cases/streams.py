@@ -106,6 +106,17 @@ def streams(program):
         yield f"a long capture from a pipe: {' '.join(words)}", difference(found, answer(words, long), words)
 
 
+def little_memory(program):
+    """With less and less memory a call gives the whole report, or ends with status 5 and a front of it."""
+    words = "load program=heavy frames=100000 hosts=50 cores=16".split()
+    wanted = answer(words)
+    for megabytes in (4_096, 256, 128, 96, 64, 48, 32, 24):
+        found = outcome(program, words, memory=megabytes * 2**20)
+        is_front = found.err == b"scr: out of memory\n" and wanted.out.startswith(found.out)
+        wrong = None if found.status == 5 and is_front else difference(found, wanted, words)
+        yield f"{megabytes} megabytes", wrong
+
+
 def launcher(_program):
     """./scr, from another folder and through a link: the words, the streams and the status are the program's."""
     with tempfile.TemporaryDirectory() as folder:
