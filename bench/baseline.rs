@@ -1,8 +1,11 @@
 //! The same program in plain Rust, std only and one thread, to measure against: `run program=ddos threshold=N` reads a
-//! capture on standard input, and writes a verdict for each frame and the counts. Nothing of it is proved.
+//! capture on standard input, and writes a verdict for each frame and the counts; `step PROGRAM FLOWS PACKETS` is the work
+//! of scr_bench. Nothing of it is proved.
 //!
 //! The flow table is a plain list, the most recently used source first. Verdicts are kept until the capture is read to
 //! its end, so that a faulty capture leaves the output alone. Reads and writes are of 64 KiB.
+
+mod steps;
 
 use std::fs::File;
 use std::io::{self, Read, Write};
@@ -332,6 +335,12 @@ fn unbuffered<S: AsFd>(stream: S, fault: Fault) -> Result<File, Fault> {
 }
 
 fn run_words() -> Result<(), Fault> {
+    let words: Vec<String> = std::env::args().skip(1).collect();
+    if words.first().is_some_and(|it| it == "step") {
+        let sum = steps::checksum_of(&words[1..]).ok_or(Fault::Words)?;
+        println!("{sum}");
+        return Ok(());
+    }
     let threshold = read_words().ok_or(Fault::Words)?;
     run(threshold, unbuffered(io::stdin(), Fault::Read)?, unbuffered(io::stdout(), Fault::Write)?)
 }

@@ -1,5 +1,5 @@
 -- The step of the door: what the row of a packet makes of the sources, the most recently used first.
-use Rattle.std.specs.Prelude.{List, not, unwrap_or, if◌then◌else◌}
+use Rattle.std.specs.Prelude.{ℕ, List, not, unwrap_or, if◌then◌else◌}
 use Rattle.std.specs.Map.{lookup}
 use Rattle.scr_base.specs.declared.row.Row.{Row}
 use Rattle.scr_base.specs.declared.row.Verdict.{Verdict}

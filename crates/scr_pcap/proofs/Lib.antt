@@ -6,3 +6,7 @@ pub mod Told
 pub mod OneReading
 pub mod Joining
 pub mod SomeReading
+pub mod Appended
+pub mod GeneratedFrames
+pub mod GeneratedRecords
+pub mod GeneratedReading

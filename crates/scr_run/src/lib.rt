@@ -28,7 +28,9 @@
 #![tactic(auto)]
 
 mod answer;
+mod command_words;
 mod fault_line;
+mod names;
 mod report;
 mod status;
 #[cfg(test)]
@@ -36,6 +38,8 @@ mod tests;
 mod top;
 mod words;
 
+pub use command_words::{Command, ProgramSettings, RunSettings, Shape, WordsError, read_words};
 pub use fault_line::write_fault_line;
+pub use names::names_of;
 pub use status::{Status, WordCause, WordFault};
 pub use top::scr_main;

@@ -1,0 +1,10 @@
+pub mod Apart
+pub mod OneLog
+pub mod Rules
+pub mod Loads
+pub mod Stores
+pub mod Draws
+pub mod Calls
+pub mod LostToAll
+pub mod Looking
+pub mod RuleSays

@@ -1,0 +1,24 @@
+use Rattle.std.proofs.Common.{◌<◌, ◌+◌, ap, sym, refl, ◌∙◌, subst, arith}
+use mathlib.Core.Option.{none}
+use Rattle.atomic_table.specs.Table.{step}
+use Rattle.scr_log.specs.Passes.{LogsOf}
+use Rattle.scr_log.proofs.Loads.{loads_word}
+use Rattle.scr_log.proofs.Looking.{word_read}
+use Rattle.scr_log.proofs.logs.Logs.read_word.Goals as goal
+
+pub load-requires : goal.load-requires
+load-requires c =
+    let reading = c.requires.reading in
+    let few = c.requires.word in
+    let within : c.args.at + 1 + c.args.i < c.args.self.now.table.words = let all = c.requires.within in omega arith in (
+      reading.of_these ∙ ap (λ (l : LogsOf). l.table) (sym c.self.view_is),
+      subst (λ (l : LogsOf). c.args.at + 1 + c.args.i < l.table.words) (sym c.self.view_is) within,
+      loads_word c.self.inside.table.shared.key.plan.value c.self.inside.table.shared.key.slots _ _ _ reading.own _
+          (record { core = c.args.core; number = c.args.p }) reading.its_core reading.found,
+    )
+
+pub returns-clause-word : goal.returns-clause-word
+returns-clause-word c =
+    word_read c.args.self.now c.args.seat.now.table_id c.args.seat.now.me c.args.core c.args.p c.args.at c.args.i _
+    (step c.self.inside.table.shared.table_id.slots (c.args.at + 1 + c.args.i) 0 0 none)
+    c.requires.reading c.requires.place c.requires.word refl c.load.ensures.2.word

@@ -1,0 +1,40 @@
+// Where the words stand.
+ghost use Rattle.std.specs.Prelude.{◌≡◌, ◌≤◌, ◌<◌, ◌+◌, ◌-◌};
+ghost use Rattle.scr_log.specs.Layout.{place, tag_offset, finished_offset, claim_place, halt_place};
+
+use crate::logs::Logs;
+
+impl Logs {
+    // The tag of packet p in the log of a core. The seven words of the row stand behind it.
+    pub(crate) fn tag_place(&self, core: u32, p: u32) -> usize
+        requires core { core < self.now.plan.cores }
+        requires number { 1 ≤ p }
+        ensures place { result ≡ place self.now.slots core (tag_offset self.now.slots (p - 1)) }
+        ensures within { result + 7 < self.now.table.words }
+    {
+        let first = core as usize * (8 * self.slots as usize + 1);
+        first + 8 * ((p - 1) % self.slots) as usize
+    }
+
+    pub(crate) fn finished_place(&self, core: u32) -> usize
+        requires { core < self.now.plan.cores }
+        ensures place { result ≡ place self.now.slots core (finished_offset self.now.slots) }
+        ensures within { result < self.now.table.words }
+    {
+        core as usize * (8 * self.slots as usize + 1) + 8 * self.slots as usize
+    }
+
+    pub(crate) fn claim_place(&self) -> usize
+        ensures place { result ≡ claim_place self.now.plan.cores self.now.slots }
+        ensures within { result < self.now.table.words }
+    {
+        self.cores as usize * (8 * self.slots as usize + 1)
+    }
+
+    pub(crate) fn halt_place(&self) -> usize
+        ensures place { result ≡ halt_place self.now.plan.cores self.now.slots }
+        ensures within { result < self.now.table.words }
+    {
+        self.cores as usize * (8 * self.slots as usize + 1) + 1
+    }
+}

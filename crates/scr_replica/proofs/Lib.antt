@@ -1,0 +1,12 @@
+pub mod Lost
+pub mod Knowing
+pub mod Frames
+pub mod Passing
+pub mod Packets
+pub mod Found
+pub mod Taking
+pub mod InOrder
+pub mod OneCoreOfAll
+pub mod Deciding
+pub mod Undivided
+pub mod Counted

@@ -1,0 +1,6 @@
+-- No core knows anything.
+use Rattle.std.proofs.Common.{◌≡◌, [], replicate}
+use Rattle.scr_replica.proofs.filling.new_cores.Given as goal
+
+abbrev pub invariant-loop : goal.invariant-loop
+invariant-loop l = l.cores.items ≡ replicate l.counter []

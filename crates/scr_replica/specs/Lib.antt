@@ -1,0 +1,3 @@
+pub mod OneCore
+pub mod Entries
+pub mod Answers

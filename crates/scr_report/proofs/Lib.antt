@@ -1,0 +1,9 @@
+pub mod Numbers
+pub mod Cutting
+pub mod LineKinds
+pub mod Stages
+pub mod Refusals
+pub mod OneReading
+pub mod Ends
+pub mod Written
+pub mod ReadBack

@@ -1,0 +1,5 @@
+pub mod Text
+pub mod Outcome
+pub mod Grammar
+pub mod Parts
+pub mod ReadBack

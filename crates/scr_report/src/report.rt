@@ -1,0 +1,60 @@
+ghost use Rattle.scr_report.specs.Outcome.{Outcome};
+
+use scr_plan::{CoreCounts, Given};
+use std::alloc::AllocFailed;
+use std::marker::Model;
+
+/// What a run found.
+#[derive(Debug, Drop)]
+pub struct Report {
+    /// The verdicts, in the order of the frames.
+    pub verdicts: Vec<Given>,
+    /// How many frames there are.
+    pub frames: u32,
+    /// How many of them were delivered.
+    pub delivered: u32,
+    /// How many packets some delivered frame carries.
+    pub kept: u32,
+    /// The counts of each core, from core 0 on.
+    pub cores: Vec<CoreCounts>,
+    /// The flows of the last state.
+    pub flows: u64,
+    /// How often each name was given, in the order of the names.
+    pub totals: Vec<u64>,
+}
+
+impl Model for Report {
+    ghost Value = { Outcome };
+
+    ghost view = { λ report. record {
+      verdicts = report.verdicts.items;
+      frames = report.frames;
+      delivered = report.delivered;
+      kept = report.kept;
+      cores = report.cores.items;
+      flows = report.flows;
+      totals = report.totals.items;
+    } };
+}
+
+/// Why some bytes are no report.
+#[derive(Clone, Copy, Debug, PartialEq, Eq)]
+pub enum ReportError {
+    /// This line, from 1, is the first that isn't allowed behind those before it, or has no line feed.
+    Line { line: u32 },
+    /// The bytes end behind whole lines that are allowed, and this line is missing.
+    Ended { line: u32 },
+    /// There was no memory for the report.
+    OutOfMemory,
+}
+
+impl<T: Drop> From<AllocFailed<T>> for ReportError {
+    ghost use Rattle.std.specs.Prelude.{◌≡◌};
+    ghost use Rattle.scr_report.specs.declared.report.ReportError.TheVariants.{OutOfMemory};
+
+    ghost from_gives = { λ _ error. error ≡ OutOfMemory };
+
+    fn from(_: AllocFailed<T>) -> Self {
+        ReportError::OutOfMemory
+    }
+}

@@ -1,0 +1,74 @@
+ghost use Rattle.std.specs.Prelude.{◌≤◌};
+
+use scr_bucket::BucketSettings;
+use scr_conn::ConnSettings;
+use scr_ddos::DdosSettings;
+use scr_heavy::HeavySettings;
+use scr_knock::KnockSettings;
+use scr_plan::Drops;
+
+/// What the program is to do.
+#[derive(Clone, Copy, Debug, PartialEq, Eq)]
+pub enum Command {
+    /// Read a capture, and let cores give each frame a verdict.
+    Run,
+    /// Read a capture, and take it as one program without cores does.
+    Plain,
+    /// Let cores take a capture that is made up.
+    Load,
+}
+
+/// A packet program, and the numbers that are chosen for it.
+#[derive(Clone, Copy, Debug, PartialEq, Eq)]
+pub enum ProgramSettings {
+    /// The flood counter.
+    Ddos(DdosSettings),
+    /// Heavy flows.
+    Heavy(HeavySettings),
+    /// The token bucket.
+    Bucket(BucketSettings),
+    /// The knocking at ports.
+    Knock(KnockSettings),
+    /// The connection tracker.
+    Conn(ConnSettings),
+}
+
+/// How the frames of a run go to its cores.
+#[derive(Debug, Drop)]
+pub struct Shape {
+    /// How many cores there are, from 1 to 16.
+    pub cores: u32,
+    /// How many packets before its own a frame carries, at most 64.
+    pub history: u32,
+    /// The frames that aren't delivered.
+    pub drops: Drops,
+    /// How many messages wait for a core at most, from 1 to 4,096.
+    pub ring: u32,
+    /// Whether each core has a thread of its own.
+    pub threads: bool,
+    ghost some_cores: { 1 ≤ cores },
+    ghost few_cores: { cores ≤ 16 },
+    ghost short_history: { history ≤ 64 },
+    ghost some_ring: { 1 ≤ ring },
+    ghost short_ring: { ring ≤ 4096 },
+}
+
+/// All that the words of a command line choose, with the defaults for what they leave out.
+#[derive(Debug, Drop)]
+pub struct RunSettings {
+    /// What to do.
+    pub command: Command,
+    /// The program, with its numbers.
+    pub program: ProgramSettings,
+    /// How frames go to the cores.
+    pub shape: Shape,
+    /// What the made-up capture begins with.
+    pub start: u64,
+    /// How many frames it has, at most 1,000,000.
+    pub frames: u32,
+    /// How many hosts send in it, from 1 to 65,536.
+    pub hosts: u32,
+    ghost few_frames: { frames ≤ 1000000 },
+    ghost some_hosts: { 1 ≤ hosts },
+    ghost few_hosts: { hosts ≤ 65536 },
+}

@@ -1,0 +1,156 @@
+//! Command lines, with the settings that each must give, by hand.
+
+mod refusals;
+
+use super::*;
+use scr_base::{OutOfMemory, Word};
+use scr_bucket::BucketSettings;
+use scr_conn::ConnSettings;
+use scr_ddos::DdosSettings;
+use scr_heavy::HeavySettings;
+use scr_knock::KnockSettings;
+use std::alloc::Global;
+use std::test::Fail;
+
+/// The words of a line, parted by single spaces. An empty line has none.
+fn words_in(alloc: Global, line: &str) -> Result<Vec<Word>, OutOfMemory> {
+    let mut words = Vec::new(alloc);
+    if !line.is_empty() {
+        for word in line.as_bytes().split(|byte| *byte == b' ') {
+            words.push(Word::of(alloc, word)?)?;
+        }
+    }
+    Ok(words)
+}
+
+fn read(alloc: Global, line: &str) -> Result<RunSettings, WordsError> {
+    let words = words_in(alloc, line)?;
+    if words.len() > 1000 {
+        return Err(WordsError::OutOfMemory);
+    }
+    read_words(alloc, &words)
+}
+
+#[test]
+fn has_a_default_for_each_operand(rt: HostRuntime) -> Result<(), Fail> {
+    let settings = read(rt.alloc(), "run program=ddos").map_err(|_| "refused")?;
+    assert_eq!(rt; settings.command, Command::Run);
+    let ProgramSettings::Ddos(program) = settings.program else {
+        return Err(Fail::from("another program"));
+    };
+    assert_eq!(rt; (program.threshold, program.flows), (1000, 4096));
+    assert_eq!(rt; (settings.shape.cores, settings.shape.history), (1, 0));
+    assert_eq!(rt; (settings.shape.ring, settings.shape.threads), (1024, true));
+    assert!(rt; !settings.shape.drops.has(1));
+    assert_eq!(rt;
+        (settings.start, settings.frames, settings.hosts),
+        (0, 1000, 16)
+    );
+    Ok(())
+}
+
+fn program(alloc: Global, line: &str) -> Option<ProgramSettings> {
+    match read(alloc, line) {
+        Ok(settings) => Some(settings.program),
+        Err(_) => None,
+    }
+}
+
+#[test]
+fn has_the_defaults_of_each_program(rt: HostRuntime) -> Result<(), Fail> {
+    let bytes = 1_000_000;
+    let heavy = ProgramSettings::Heavy(HeavySettings { bytes, flows: 4096 });
+    assert_eq!(rt; program(rt.alloc(), "plain program=heavy"), Some(heavy));
+    let (rate, burst) = (1000, 100);
+    let bucket = ProgramSettings::Bucket(BucketSettings {
+        rate,
+        burst,
+        flows: 4096,
+    });
+    assert_eq!(rt; program(rt.alloc(), "load program=bucket"), Some(bucket));
+    let (first, second, third) = (7000, 8000, 9000);
+    let knock = ProgramSettings::Knock(KnockSettings {
+        first,
+        second,
+        third,
+        flows: 4096,
+    });
+    assert_eq!(rt; program(rt.alloc(), "run program=knock"), Some(knock));
+    let idle = 60_000_000;
+    let conn = ProgramSettings::Conn(ConnSettings { idle, flows: 4096 });
+    assert_eq!(rt; program(rt.alloc(), "run program=conn"), Some(conn));
+    Ok(())
+}
+
+#[test]
+fn takes_each_program_operand(rt: HostRuntime) -> Result<(), Fail> {
+    let (threshold, flows) = (4_294_967_295, 65_536);
+    let ddos = ProgramSettings::Ddos(DdosSettings { threshold, flows });
+    let line = "run threshold=4294967295 flows=65536 program=ddos";
+    assert_eq!(rt; program(rt.alloc(), line), Some(ddos));
+    let bytes = 1_000_000_000_000;
+    let heavy = ProgramSettings::Heavy(HeavySettings { bytes, flows: 1 });
+    let line = "run program=heavy bytes=1000000000000 flows=1";
+    assert_eq!(rt; program(rt.alloc(), line), Some(heavy));
+    let (rate, burst) = (0, 1_000_000_000);
+    let bucket = ProgramSettings::Bucket(BucketSettings {
+        rate,
+        burst,
+        flows: 9,
+    });
+    let line = "run burst=1000000000 program=bucket flows=9 rate=0";
+    assert_eq!(rt; program(rt.alloc(), line), Some(bucket));
+    let (first, second, third) = (1, 65_535, 22);
+    let knock = ProgramSettings::Knock(KnockSettings {
+        first,
+        second,
+        third,
+        flows: 4096,
+    });
+    let line = "run ports=0001,65535,022 program=knock";
+    assert_eq!(rt; program(rt.alloc(), line), Some(knock));
+    let idle = 10_000_000_000_000;
+    let conn = ProgramSettings::Conn(ConnSettings { idle, flows: 4096 });
+    let line = "run program=conn idle=10000000000000";
+    assert_eq!(rt; program(rt.alloc(), line), Some(conn));
+    Ok(())
+}
+
+#[test]
+fn takes_the_shape_of_a_run(rt: HostRuntime) -> Result<(), Fail> {
+    let line =
+        "load threads=no ring=7 drop=3,5-9/2 hosts=65536 program=ddos cores=3 frames=0 start=5";
+    let settings = read(rt.alloc(), line).map_err(|_| "refused")?;
+    assert_eq!(rt; settings.command, Command::Load);
+    let shape = settings.shape;
+    assert_eq!(rt; (shape.cores, shape.history, shape.ring), (3, 2, 7));
+    assert!(rt; !shape.threads);
+    let drops = shape.drops;
+    assert_eq!(rt;
+        (drops.has(3), drops.has(5), drops.has(6), drops.has(9)),
+        (true, true, false, true)
+    );
+    assert_eq!(rt;
+        (settings.start, settings.frames, settings.hosts),
+        (5, 0, 65_536)
+    );
+    let settings = read(rt.alloc(), "run history=0 program=ddos cores=16").map_err(|_| "refused")?;
+    assert_eq!(rt; (settings.shape.cores, settings.shape.history), (16, 0));
+    Ok(())
+}
+
+#[test]
+fn takes_an_empty_drop_list_and_numbers_beyond_the_run(rt: HostRuntime) -> Result<(), Fail> {
+    let ddos = ProgramSettings::Ddos(DdosSettings {
+        threshold: 2,
+        flows: 4096,
+    });
+    let settings = read(rt.alloc(), "run threshold=2 program=ddos drop=").map_err(|_| "refused")?;
+    assert_eq!(rt; settings.program, ddos);
+    assert!(rt; !settings.shape.drops.has(1));
+    let line = "run program=ddos threshold=2 drop=9999";
+    let settings = read(rt.alloc(), line).map_err(|_| "refused")?;
+    assert_eq!(rt; settings.program, ddos);
+    assert!(rt; settings.shape.drops.has(9999));
+    Ok(())
+}
