@@ -1,0 +1,266 @@
+"""Command words: those that are refused, with the first cause of the first word, and those that are taken."""
+import itertools
+
+from captures import capture, header
+from model import Outcome, answer, fault
+from running import compare, difference, ended, file_of, outcome, start
+
+from .known import FOUR, FOUR_REPORT, SOURCE
+
+COMMANDS = ("run", "plain", "load")
+OWN = {"ddos": ["threshold"], "heavy": ["bytes"], "bucket": ["rate", "burst"], "knock": ["ports"], "conn": ["idle"]}
+OF_CORES, OF_LOAD = ["cores", "history", "drop", "ring", "threads"], ["start", "frames", "hosts"]
+SAMPLE = {"flows": "7", "cores": "2", "history": "1", "drop": "3", "ring": "9", "threads": "no", "start": "1", "frames": "3",
+          "hosts": "2", "threshold": "1", "bytes": "1", "rate": "1", "burst": "1", "ports": "1,2,3", "idle": "1"}
+NINES = "9" * 40
+
+# Lines of words (one space between two), and the line that refuses them.
+REFUSED = """
+walk                                        | word 1: Command
+RUN program=ddos                            | word 1: Command
+Run program=ddos                            | word 1: Command
+runs program=ddos                           | word 1: Command
+ru program=ddos                             | word 1: Command
+run=1 program=ddos                          | word 1: Command
+program=ddos run                            | word 1: Command
+spray program=ddos                          | word 1: Command
+replay program=ddos                         | word 1: Command
+--help                                      | word 1: Command
+-h                                          | word 1: Command
+run                                         | word 2: Missing
+plain                                       | word 2: Missing
+load                                        | word 2: Missing
+run threshold=2                             | word 3: Missing
+run cores=2 history=0 drop=2                | word 5: Missing
+run threshold=1 bytes=1 rate=1 burst=1 ports=1,2,3 idle=1 flows=1 cores=1 history=1 drop= ring=1 threads=no | word 14: Missing
+load idle=1 start=0 frames=0 hosts=1 ports=1,2,3 threads=yes | word 8: Missing
+run program=dns                             | word 2: Program
+run program=                                | word 2: Program
+run program=DDOS                            | word 2: Program
+run program=ddos2                           | word 2: Program
+run program=ddo                             | word 2: Program
+run program=ddos=                           | word 2: Program
+run program==ddos                           | word 2: Program
+run program=ddos,heavy                      | word 2: Program
+run program=chain                           | word 2: Program
+run program=table                           | word 2: Program
+plain program=dns                           | word 2: Program
+load program=run                            | word 2: Program
+run threshold=1 program=dns                 | word 3: Program
+run rate=5 program=dns                      | word 3: Program
+run rate=5 program=dns program=ddos         | word 3: Program
+run program=dns program=ddos                | word 2: Program
+run program=ddos program=dns                | word 3: Twice
+run program=ddos program=ddos               | word 3: Twice
+run program=ddos -v                         | word 3: NoEquals
+run ddos                                    | word 2: NoEquals
+run program                                 | word 2: NoEquals
+run program=ddos threshold                  | word 3: NoEquals
+run program=ddos threshold:2                | word 3: NoEquals
+run program=ddos 2                          | word 3: NoEquals
+run program=ddos color=red                  | word 3: UnknownName
+run program=ddos =                          | word 3: UnknownName
+run program=ddos =2                         | word 3: UnknownName
+run program=ddos Threshold=2                | word 3: UnknownName
+run program=ddos THRESHOLD=2                | word 3: UnknownName
+run program=ddos thresh=2                   | word 3: UnknownName
+run program=ddos threshold2=2               | word 3: UnknownName
+run program=ddos threshold:=2               | word 3: UnknownName
+run program=ddos -threshold=2               | word 3: UnknownName
+run program=ddos --threshold=2              | word 3: UnknownName
+run Program=ddos                            | word 2: UnknownName
+run programs=ddos                           | word 2: UnknownName
+run prog=ddos                               | word 2: UnknownName
+run program=ddos delay=1:1                  | word 3: UnknownName
+run program=ddos repeat=1                   | word 3: UnknownName
+run program=ddos first=ddos                 | word 3: UnknownName
+run program=ddos core=2                     | word 3: UnknownName
+run program=ddos run=1                      | word 3: UnknownName
+run program=ddos rate=5                     | word 3: NotHere
+run rate=5 program=ddos                     | word 2: NotHere
+run rate=5 program=ddos program=bucket      | word 2: NotHere
+run rate=x program=ddos                     | word 2: NotHere
+run rate=x program=dns                      | word 2: Value
+run rate=x                                  | word 2: Value
+run rate=1000000001                         | word 2: Range
+run rate=1 program=bucket threshold=1       | word 4: NotHere
+plain program=ddos drop=1                   | word 3: NotHere
+plain program=ddos drop=0                   | word 3: NotHere
+plain program=ddos cores=17                 | word 3: NotHere
+plain cores=2                               | word 2: NotHere
+plain frames=2 program=ddos                 | word 2: NotHere
+run program=ddos frames=5                   | word 3: NotHere
+run start=5 program=ddos                    | word 2: NotHere
+run program=ddos cores=2 cores=2            | word 4: Twice
+run program=ddos cores=2 cores=17           | word 4: Twice
+run program=ddos cores=2 cores=             | word 4: Twice
+run program=ddos threshold=1 threshold=x    | word 4: Twice
+run program=ddos drop= drop=0               | word 4: Twice
+run program=ddos cores=2 flows=1 cores=2    | word 5: Twice
+run program=ddos color=red color=red        | word 3: UnknownName
+run program=ddos rate=1 rate=1              | word 3: NotHere
+run threshold=1 threshold=1 program=ddos    | word 3: Twice
+run cores=17 cores=17 program=ddos          | word 2: Range
+run program=ddos threshold=                 | word 3: Value
+run program=ddos threshold==                | word 3: Value
+run program=ddos threshold==2               | word 3: Value
+run program=ddos threshold=2=               | word 3: Value
+run program=ddos threshold=2=2              | word 3: Value
+run program=ddos threshold=0x10             | word 3: Value
+run program=ddos threshold=1e3              | word 3: Value
+run program=ddos threshold=2.0              | word 3: Value
+run program=ddos threshold=1,000            | word 3: Value
+run program=ddos threshold=1_000            | word 3: Value
+run program=ddos threads=                   | word 3: Value
+run program=ddos threads=YES                | word 3: Value
+run program=ddos threads=Yes                | word 3: Value
+run program=ddos threads=1                  | word 3: Value
+run program=ddos threads=true               | word 3: Value
+run program=ddos threads=yes,               | word 3: Value
+run program=ddos threads=noyes              | word 3: Value
+run program=ddos threads=y                  | word 3: Value
+run program=knock ports=1,2                 | word 3: Value
+run program=knock ports=                    | word 3: Value
+run program=knock ports=1                   | word 3: Value
+run program=knock ports=,,                  | word 3: Value
+run program=knock ports=1,2,                | word 3: Value
+run program=knock ports=,1,2                | word 3: Value
+run program=knock ports=1,,2                | word 3: Value
+run program=knock ports=1,2,3,4             | word 3: Value
+run program=knock ports=1,2,3,              | word 3: Value
+run program=knock ports=1;2;3               | word 3: Value
+run program=knock ports=1,2,x               | word 3: Value
+run program=knock ports=0,x,1               | word 3: Value
+run program=knock ports=0,1,x               | word 3: Value
+run program=knock ports=70000,1,2,3         | word 3: Value
+run program=knock ports=0,1,2               | word 3: Range
+run program=knock ports=1,0,2               | word 3: Range
+run program=knock ports=1,2,0               | word 3: Range
+run program=knock ports=65536,1,2           | word 3: Range
+run program=knock ports=1,65536,2           | word 3: Range
+run program=knock ports=1,2,65536           | word 3: Range
+run program=knock ports=1,2,99999999999999999999999999999999999999999 | word 3: Range
+"""
+
+
+def refused_words(program):
+    """Words that are refused before the capture is read."""
+    cases = [(line.partition("|")[0].split(), line.partition("|")[2].strip()) for line in REFUSED.strip().splitlines()]
+    cases += [([], "word 1: NoCommand"), ([""], "word 1: Command"), (["run "], "word 1: Command"), ([" run"], "word 1: Command"),
+              (["run program=ddos"], "word 1: Command"), (["run", ""], "word 2: NoEquals"),
+              (["run", "program=ddos", ""], "word 3: NoEquals"), (["run", "", "program=ddos"], "word 2: NoEquals"),
+              (["run", " program=ddos"], "word 2: UnknownName"), (["run", "program =ddos"], "word 2: UnknownName"),
+              (["run", "program= ddos"], "word 2: Program"), (["run", "program=ddos "], "word 2: Program"),
+              (["run", "program=ddos\n"], "word 2: Program"), (["run", "program=ddos", "threshold=2 cores=2"], "word 3: Value"),
+              (["run", "program=ddos", "größe=2"], "word 3: UnknownName"),
+              (["run", "program=ddos", "größe"], "word 3: NoEquals"),
+              (["run", "program=ddos", "x" * 100_000], "word 3: NoEquals"),
+              (["run", "program=ddos", "x" * 100_000 + "=1"], "word 3: UnknownName"),
+              (["run", "program=" + "ddos" * 10_000], "word 2: Program"), (["run", *["x"] * 5_000], "word 2: NoEquals")]
+    cases += [(["run", "program=ddos", f"threshold={text}"], "word 3: Value")
+              for text in ("x", "2x", "x2", "-1", "+1", "-0", " 2", "2 ", "\t2", "2\n", "٢", "２", "2²", "1/2", "0b1",
+                           NINES + "x")]
+    # Where one argument is no text in UTF-8, the program takes it that there are none.
+    cases += [(words, "word 1: NoCommand") for words in (["run", "program=ddos", b"threshold=\xff"], [b"\xff\xfe"],
+                                                         ["walk", b"\x80"])]
+    for words, cause in cases:
+        yield f"{' '.join(map(str, words))[:60] or 'none'}", compare(program, words, FOUR, fault(1, cause))
+
+
+def foreign_operands(program):
+    """Each operand with each command and each program that doesn't take it, and with each that does."""
+    for command in COMMANDS:
+        for name in OF_CORES + OF_LOAD:
+            taken = command == "load" or command == "run" and name in OF_CORES
+            words = f"{command} program=ddos {name}={SAMPLE[name]}"
+            known = None if taken else fault(1, "word 3: NotHere")
+            yield f"{command} with {name}", compare(program, words, FOUR, known)
+    for number, (chosen, own) in enumerate(itertools.product(OWN, [name for names in OWN.values() for name in names])):
+        words = f"{COMMANDS[number % 3]} program={chosen} {own}={SAMPLE[own]}"
+        taken = own in OWN[chosen]
+        yield f"{chosen} with {own}", compare(program, words, FOUR, None if taken else fault(1, "word 3: NotHere"))
+
+
+# One fault of each kind that a word may have under `run program=ddos`, with its cause.
+FAULTS = [("-v", "NoEquals"), ("", "NoEquals"), ("color=red", "UnknownName"), ("=", "UnknownName"), ("rate=5", "NotHere"),
+          ("frames=5", "NotHere"), ("idle=x", "NotHere"), ("program=ddos", "Twice"), ("program=dns", "Twice"),
+          ("threshold=", "Value"),
+          ("flows=x", "Value"), ("threads=maybe", "Value"), ("cores=17", "Range"), ("ring=0", "Range"), ("history=65", "Range"),
+          ("drop=1,,2", "Drop Empty at 2"), ("drop=2x", "Drop Digit at 0"), ("drop=1,0", "Drop Zero at 2"),
+          ("drop=1000000001", "Drop TooLarge at 0"), ("drop=7-3", "Drop Range at 0")]
+
+
+def several_faults(program):
+    """Two and three faults, in each order: the first word that is faulty tells."""
+    base = ["run", "program=ddos"]
+    pairs = list(itertools.permutations(FAULTS, 2))
+    for one, other in pairs:
+        words = [*base, one[0], other[0]]
+        assert answer(words) == fault(1, f"word 3: {one[1]}"), words
+    for one, other in pairs[::5]:
+        yield f"{one[0]} and {other[0]}", compare(program, [*base, one[0], other[0]], FOUR, fault(1, f"word 3: {one[1]}"))
+    good = ["flows=9", "threshold=3", "cores=2", "threads=no"]
+    for at, (one, other) in enumerate(pairs[2::11]):
+        between = [word for word in good if word.split("=")[0] not in {text.split("=")[0] for text, _ in (one, other)}][at % 3:]
+        words = [*base, *between, one[0], "ring=7", other[0]]
+        if not {"ring=0"} & {one[0], other[0]}:
+            yield f"{words[2:]}", compare(program, words, FOUR, fault(1, f"word {3 + len(between)}: {one[1]}"))
+    for three in list(itertools.permutations(FAULTS, 3))[7::131]:
+        words = [*base, *(text for text, _ in three)]
+        yield f"{words[2:]}", compare(program, words, FOUR, fault(1, f"word 3: {three[0][1]}"))
+    for words, cause in ((["walk", "-v"], "word 1: Command"), (["walk", "program=dns", "color=red"], "word 1: Command"),
+                         (["run", "-v", "program=dns"], "word 2: NoEquals"), (["run", "program=dns", "-v"], "word 2: Program"),
+                         (["run", "color=red", "-v"], "word 2: UnknownName"),
+                         (["run", "drop=0", "cores=0"], "word 2: Drop Zero at 0"),
+                         (["run", "cores=0", "drop=0"], "word 2: Range")):
+        yield f"{words}", compare(program, words, FOUR, fault(1, cause))
+
+
+# A call that takes each number, its least value and its greatest.
+BOUNDS = [
+    ("run program=ddos", "flows", 1, 65_536), ("run program=ddos", "cores", 1, 16), ("run program=ddos", "history", 0, 64),
+    ("run program=ddos", "ring", 1, 4_096), ("load program=ddos", "start", 0, 18_446_744_073_709_551_615),
+    ("load program=ddos", "frames", 0, 1_000_000), ("load program=ddos", "hosts", 1, 65_536),
+    ("run program=ddos", "threshold", 0, 4_294_967_295), ("run program=heavy", "bytes", 1, 1_000_000_000_000),
+    ("plain program=bucket", "rate", 0, 1_000_000_000), ("run program=bucket", "burst", 1, 1_000_000_000),
+    ("plain program=conn", "idle", 1, 10_000_000_000_000),
+]
+
+
+def numbers(program):
+    """Each number at its bounds and past them, with zeros in front, and very long."""
+    data = capture([SOURCE] * 3)
+    for call, name, least, greatest in BOUNDS:
+        call = call.split()
+        inside = [str(least), "0" * 40 + str(least), "000" + str(least + 1), str(greatest), "0" * 40 + str(greatest)]
+        # (the greatest count of frames is tried elsewhere)
+        for text in inside[:3] if name == "frames" else inside:
+            words = [*call, f"{name}={text}"]
+            wrong = None if answer(words, data).status == 0 else "the model errs: it refuses it"
+            yield f"{name}={text}", wrong or compare(program, words, data)
+        outside = [str(greatest + 1), NINES, "0" * 40 + str(greatest + 1), str(greatest + 2**64), "1" + "0" * 5_000]
+        outside += [str(least - 1), "0" * 40 + str(least - 1), "0"] if least else []
+        for text in outside:
+            yield f"{name}={text[:60]}", compare(program, [*call, f"{name}={text}"], data, fault(1, "word 3: Range"))
+        for text in ("", "x", "-1", "+1", "1=", f"{NINES}x"):
+            yield f"{name}={text}", compare(program, [*call, f"{name}={text}"], data, fault(1, "word 3: Value"))
+    for text in ("1,1,1", "65535,65535,65535", "007,0008," + "0" * 40 + "9"):
+        yield f"ports={text}", compare(program, f"run program=knock ports={text}", data)
+
+
+def bare_words(program):
+    """Refused words, and streams that aren't there; and words that hide behind others."""
+    refused, silent = fault(1, "word 1: Command"), Outcome(1, b"", b"")
+    yield "no standard input", difference(outcome(program, ["walk"], closed=0), refused)
+    yield "no standard output", difference(outcome(program, ["walk"], closed=1), refused)
+    yield "no standard error", difference(outcome(program, ["walk"], closed=2), silent)
+    with open("/dev/full", "wb") as full:
+        yield "standard error on a full device", difference(outcome(program, ["walk"], stderr=full), silent)
+        yield "standard output on a full device", difference(outcome(program, ["walk"], stdout=full), refused)
+    with file_of(header()[:7]) as file:
+        both = ended(start(program, ["run", "program=ddos", "cores=0"], stdin=file))
+    yield "a refused word and a malformed capture", difference(both, fault(1, "word 3: Range"))
+    four = Outcome(0, FOUR_REPORT, b"")
+    for order in itertools.islice(itertools.permutations(["program=ddos", "threshold=2", "cores=1", "flows=4096", "drop="]), 0,
+                                  120, 13):
+        yield f"{order}", compare(program, ["run", *order], FOUR, four)

@@ -1,0 +1,150 @@
+"""The command words: the settings that they choose, or the first word that is refused, with its first cause."""
+import re
+import sys
+
+from .programs import PROGRAMS
+
+COMMANDS = {b"run": "run", b"plain": "plain", b"load": "load"}
+ALL, CORES, LOAD = ("run", "plain", "load"), ("run", "load"), ("load",)
+NUMBER = rb"[0-9]+"
+# A number may have any count of digits; some versions of Python read no more than some thousands unless told to.
+if hasattr(sys, "set_int_max_str_digits"):
+    sys.set_int_max_str_digits(0)
+# The operands: the commands or the program that take them, and a number's least, greatest and default.
+OPERANDS = {
+    "program": (ALL, None), "flows": (ALL, (1, 65_536, 4_096)),
+    "cores": (CORES, (1, 16, 1)), "history": (CORES, (0, 64, None)), "drop": (CORES, None),
+    "ring": (CORES, (1, 4_096, 1_024)), "threads": (CORES, None),
+    "start": (LOAD, (0, 2**64 - 1, 0)), "frames": (LOAD, (0, 1_000_000, 1_000)), "hosts": (LOAD, (1, 65_536, 16)),
+    "threshold": ("ddos", (0, 2**32 - 1, 1_000)), "bytes": ("heavy", (1, 10**12, 1_000_000)),
+    "rate": ("bucket", (0, 10**9, 1_000)), "burst": ("bucket", (1, 10**9, 100)),
+    "ports": ("knock", (1, 65_535, None)), "idle": ("conn", (1, 10**13, 60_000_000)),
+}
+LARGEST_DROP, MOST_PIECES = 10**9, 256
+
+
+class Refused(Exception):
+    """A word that is refused: its number and the cause that is told."""
+
+    def __init__(self, number, cause):
+        super().__init__(number, cause)
+        self.number, self.cause = number, cause
+
+
+def as_bytes(words):
+    """The words as the program has them. Where one is no UTF-8 text it has none at all."""
+    words = [word.encode() if isinstance(word, str) else word for word in words]
+    try:
+        b"".join(word + b"\n" for word in words).decode()
+    except UnicodeDecodeError:
+        return []
+    return words
+
+
+def settings(words):
+    """The command and the value of each operand that it takes, by name."""
+    words = as_bytes(words)
+    if not words:
+        raise Refused(1, "NoCommand")
+    if words[0] not in COMMANDS:
+        raise Refused(1, "Command")
+    command, chosen = COMMANDS[words[0]], chosen_program(words)
+    given = {}
+    for number, word in enumerate(words[1:], 2):
+        cause = why_not_named(word, command, chosen, given)
+        if cause:
+            raise Refused(number, cause)
+        name, _, text = word.partition(b"=")
+        value, cause = value_of(name.decode(), text)
+        if cause:
+            raise Refused(number, cause)
+        given[name.decode()] = value
+    if "program" not in given:
+        raise Refused(len(words) + 1, "Missing")
+    return command, {**defaults(command, chosen, given.get("cores", 1)), **given}
+
+
+def chosen_program(words):
+    for word in words:
+        if word.startswith(b"program="):
+            name = word.partition(b"=")[2].decode()
+            return name if name in PROGRAMS else None
+    return None
+
+
+def why_not_named(word, command, chosen, given):
+    """Why a word's name is refused, or None."""
+    if b"=" not in word:
+        return "NoEquals"
+    name = word.partition(b"=")[0].decode()
+    if name not in OPERANDS:
+        return "UnknownName"
+    takers = OPERANDS[name][0]
+    if command not in takers if isinstance(takers, tuple) else chosen not in (None, takers):
+        return "NotHere"
+    return "Twice" if name in given else None
+
+
+def value_of(name, text):
+    """The value that an operand's text spells, and why it is refused."""
+    if name == "program":
+        return text.decode(), None if text.decode() in PROGRAMS else "Program"
+    if name == "threads":
+        return text, None if text in (b"yes", b"no") else "Value"
+    if name == "drop":
+        return drop_list(text)
+    least, greatest, _ = OPERANDS[name][1]
+    texts = text.split(b",") if name == "ports" else [text]
+    if len(texts) != (3 if name == "ports" else 1) or not all(re.fullmatch(NUMBER, text) for text in texts):
+        return None, "Value"
+    numbers = [int(text) for text in texts]
+    cause = None if all(least <= number <= greatest for number in numbers) else "Range"
+    return numbers if name == "ports" else numbers[0], cause
+
+
+def drop_list(text):
+    """The pieces as (first, last, step), and why the list is refused."""
+    if not text:
+        return [], None
+    pieces, place = [], 0
+    for piece in text.split(b","):
+        cause = why_not_dropped(piece, len(pieces) + 1)
+        if cause:
+            return None, f"Drop {cause} at {place}"
+        first, last, step = numbers_of(piece)
+        pieces.append((first, first if last is None else last, 1 if step is None else step))
+        place += len(piece) + 1
+    return pieces, None
+
+
+def numbers_of(piece):
+    """The three numbers of a piece, None for those that it leaves out; or None where it has none of the forms."""
+    found = re.fullmatch(rb"([0-9]+)(?:-([0-9]+)(?:/([0-9]+))?)?", piece)
+    return found and [None if text is None else int(text) for text in found.groups()]
+
+
+def why_not_dropped(piece, count):
+    if not piece:
+        return "Empty"
+    found = numbers_of(piece)
+    if not found:
+        return "Digit"
+    numbers = [number for number in found if number is not None]
+    if 0 in numbers:
+        return "Zero"
+    if max(numbers) > LARGEST_DROP:
+        return "TooLarge"
+    if found[1] is not None and found[0] > found[1]:
+        return "Range"
+    return "Pieces" if count > MOST_PIECES else None
+
+
+def defaults(command, chosen, cores):
+    """The values of the operands that the words leave out."""
+    taken = {name: numbers for name, (takers, numbers) in OPERANDS.items() if command in takers or chosen == takers}
+    values = {name: numbers[2] for name, numbers in taken.items() if numbers}
+    if "cores" in taken:
+        values.update(history=cores - 1, drop=[], threads=b"yes")
+    if "ports" in taken:
+        values["ports"] = [7_000, 8_000, 9_000]
+    return values
