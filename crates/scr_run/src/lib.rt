@@ -1,30 +1,29 @@
 //! The run of `scr`, from the words of the command line to the report.
 //!
-//! **What it does.** [`scr_main`] tests the words, reads a capture to its end, lets one core take its packets through
-//! the flood counter, and writes a verdict for each frame and then the counters. Where a run ends otherwise, it writes a
-//! line about it to a second sink. A [`Status`] tells how it ended and has the exit code, and [`write_fault_line`]
-//! writes the line of any status.
+//! **What it does.** [`scr_main`] reads the words ([`read_words`]), takes a capture to its end or makes one up, and lets a
+//! program give verdicts: on its own ([`plain_run`]), or on up to 16 cores that share no table ([`run_engine`]). Then it
+//! writes the report. Where a run ends otherwise, it writes a line about it to a second sink. A [`Status`] tells how it
+//! ended and has the exit code, and [`write_fault_line`] writes the line of any status.
 //!
 //! **What a contract sees.** Words, captures, reports and lines as lists of bytes, and streams as scr_base has them, by
-//! what is left or written and by counts of failures and wants. The answer is defined from the records of a capture:
-//! their rows, the program's verdict on each row after those before it (specs/OneCore.antt), and the text of that
-//! (specs/Report.antt). The loop over the records sees a program by its trait alone.
+//! what is left or written and by counts of failures and wants. A program is seen by its row of a frame, its verdict of a
+//! row after others, its count of entries and its names (specs/Rules.antt). The report of a run is that of the one-core
+//! answer over a plan of its rows, cores, history and drop list (specs/RunReport.antt); how a run ends is said case by case
+//! of its status (specs/Ends.antt, specs/Answers.antt). The table of operands is specs/Operands.antt.
 //!
-//! **What is proved.** A run that is done has read the whole capture and written exactly the report of its records.
-//! What stands at any other end is a front of that report, and nothing before the capture was read to its end. Words
-//! are refused exactly where they aren't of the built form, and then nothing is read. A fault of the capture is
-//! answered only where the capture has it, and always where memory sufficed and no read failed; the failure of a
-//! stream only where its count rose. The line on the second sink is that of the status, or a front of it.
+//! **What is proved.** A run that is done has read the whole capture and written exactly the report that the words ask
+//! for. What stands at any other end is a front of that report, and nothing before the capture was read to its end. Words
+//! are refused exactly by their definition, and then nothing is read. A fault of the capture is answered only where the
+//! capture has it, and always where memory sufficed and no read failed; the failure of a stream only where its count
+//! rose. A load reads no capture. The line on the second sink is that of the status, or a front of it.
 //!
 //! **What is only tested.** That a run is done where there is memory, since no contract sees how much there is: a body
-//! that always lacks it would be proved too. That a failed read or write is answered and not tried again. That reports
-//! and lines, written by hand, are what the definitions say.
+//! that always lacks it would be proved too. That a failed read or write is answered and not tried again. That settings,
+//! reports and lines, written by hand, are what the definitions say.
 //!
-//! **Limits.** The words are `run`, `program=ddos` and `threshold=` with a number from 0 to 4,294,967,295, in this order;
-//! all others are refused at the first. One core takes all frames. It knows 4,096 sources, and forgets the one seen
-//! longest ago. The verdicts are held in memory until the capture ends, at
-//! most a million. Where a stream doesn't tell its bytes, as the standard streams don't, contracts speak of its counts
-//! alone.
+//! **Limits.** A capture of a million frames, whose rows are held in memory. The cores go one after another, whatever
+//! `threads` and `ring` say. Where a stream doesn't tell its bytes, as the standard streams don't, contracts speak of its
+//! counts alone.
 #![tactic(auto)]
 
 mod command_words;
