@@ -7,6 +7,14 @@ from .known import FOUR, SOURCE, one_core, plain
 
 LONGEST_FRAME, MOST_RECORDS = 262_144, 1_000_000
 RUN, PLAIN = "run program=ddos threshold=2", "plain program=ddos threshold=2"
+MILLION_LOADED = """
+    frames 1000000 delivered 1000000 kept 1000000
+    core 0 delivered 1000000 carried 1000000 recovered 0 skipped 0
+    flows 2
+    verdict PASS 0
+    verdict DROP 1000000
+    verdict OTHER 0
+"""
 HEADERS = [
     ("no bytes", b"", "ShortHeader"),
     ("23 bytes", header()[:23], "ShortHeader"),
@@ -84,18 +92,15 @@ def lengths(program):
 
 
 def record_limit(program):
-    data = header() + record(b"") * MOST_RECORDS
-    others = "OTHER " * MOST_RECORDS
-    yield "a million empty records", compare(program, RUN, data, one_core(others, 0))
-    yield "a million empty records, plain", compare(program, PLAIN, data, plain(others, 0))
-    yield "a byte behind them", compare(program, RUN, data + b"\0", fault(6, "more than 1000000 records"))
-    more = data + record(SOURCE)
-    yield "a record behind them", compare(program, f"{RUN} cores=2", more, fault(6, "more than 1000000 records"))
-    yield "a record behind them, plain", compare(program, PLAIN, more, fault(6, "more than 1000000 records"))
-    yield "the last of them cut", compare(program, RUN, data[:-1], fault(2, "record 1000000: ShortRecord"))
-    # The model isn't asked about these, since it would take long.
-    every = MOST_RECORDS
-    made = "load program=ddos frames=1000000 hosts=1 threshold=0 history=0"
-    lines = [f"frames {every} delivered {every} kept {every}", f"core 0 delivered {every} carried {every} recovered 0 skipped 0",
-             "flows 2", "verdict PASS 0", f"verdict DROP {every}", "verdict OTHER 0"]
-    yield "a million frames by load", difference(outcome(program, made.split()), good("\n".join(lines)), made.split())
+    """A million records and more. The model is asked about two of these alone, since each takes it seconds."""
+    data, other = header() + record(b"") * MOST_RECORDS, "OTHER " * MOST_RECORDS
+    many = fault(6, "more than 1000000 records")
+    yield "a million empty records", compare(program, RUN, data, one_core(other, 0))
+    yield "a byte behind them", compare(program, RUN, data + b"\0", many)
+    for name, words, more, wanted in (
+            ("a million empty records, plain", PLAIN, data, plain(other, 0)),
+            ("a record behind them", f"{RUN} cores=2", data + record(SOURCE), many),
+            ("a record behind them, plain", PLAIN, data + record(SOURCE), many),
+            ("the last of them cut", RUN, data[:-1], fault(2, "record 1000000: ShortRecord")),
+            ("a million frames by load", "load program=ddos frames=1000000 hosts=1 threshold=0", b"", good(MILLION_LOADED))):
+        yield name, difference(outcome(program, words.split(), more), wanted, words.split())

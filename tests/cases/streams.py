@@ -68,7 +68,7 @@ def unread(program):
 
 def reader_goes_away(program):
     """A reader that takes the first bytes and goes: they are a prefix of the report, and the status is 4."""
-    data = capture([SOURCE, OTHER_SOURCE] * 100_000)
+    data = capture([SOURCE, OTHER_SOURCE] * 15_000)
     for words in ([*RUN], PLAIN, [*RUN, "cores=2"], BY_PHASES):
         with file_of(data) as file, start(program, words, stdin=file) as process:
             front = os.read(process.stdout.fileno(), 1_000)
