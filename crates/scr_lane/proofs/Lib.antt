@@ -1,0 +1,3 @@
+pub mod TwoViews
+pub mod CountSteps
+pub mod LaneSteps
