@@ -37,7 +37,7 @@ fn part<T, A, C: Course<T, A>, B: Cut<A>>(
 }
 
 /// The two ends of a new lane, whose queue has room for so many items. All memory of the lane is taken here.
-pub fn ends<T: Drop, A, C: Course<T, A>>(
+pub fn make_ends<T: Drop, A, C: Course<T, A>>(
     alloc: Global,
     about: &A,
     capacity: u32,

@@ -10,7 +10,7 @@ mod view;
 
 pub use counts::{Counts, ReceiverTally, SenderTally};
 pub use course::{Course, LanePass, LaneQueue, LaneRule};
-pub use ends::{Line, ends};
+pub use ends::{Line, make_ends};
 pub use receiver::Receiver;
 pub use sender::Sender;
 pub use view::{Hand, Role, Tally};

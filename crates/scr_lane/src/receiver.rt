@@ -1,5 +1,5 @@
 //! The end that takes.
-ghost use Rattle.std.specs.Prelude.{◌≡◌, ◌<◌, ◌^◌, ◌+◌, [], IfSome, OnSome, OnNone, MatchBool};
+ghost use Rattle.std.specs.Prelude.{◌≡◌, ◌<◌, ◌^◌, ◌+◌, [], IfSome, OnSome, IfNone, MatchBool};
 ghost use Rattle.std.specs.Arc.{arc_value};
 ghost use Rattle.crossbeam_queue.specs.Fifo.{Pops};
 ghost use Rattle.crossbeam_queue.specs.Passes.{view as knows, IsSamePass, IsPassOf};
@@ -75,19 +75,19 @@ impl<T: Drop, A, C: Course<T, A>> Receiver<T, A, C> {
     pub(crate) fn new(
         line: Arc<Line<T, A, C>, Global>,
         pass: LanePass<T, A>,
-        tally: ReceiverTally,
+        seat: ReceiverTally,
         about: &A,
         capacity: u32,
     ) -> Self
         requires pass { IsPassOf (arc_value line).queue pass × (knows pass ≡ hand ReceiverRole about.now capacity 0) }
-        requires tally { (tally.seat.table_id ≡ (arc_value line).counts.table.shared.table_id) × (tally.seat.me.0 ≡ tally ReceiverRole 0 []) }
+        requires seat { (seat.seat.table_id ≡ (arc_value line).counts.table.shared.table_id) × (seat.seat.me.0 ≡ tally ReceiverRole 0 []) }
         requires few { C.total about.now < 2 ^ 63 }
         ensures { result ≡ begun about.now capacity }
     {
         Receiver {
             line,
             pass,
-            tally,
+            tally: seat,
             about: Snapshot::of(about),
             capacity: u64::from(capacity),
             count: 0,
@@ -115,8 +115,8 @@ impl<T: Drop, A, C: Course<T, A>> Receiver<T, A, C> {
         ensures some { IfSome result (λ item. C.fits self.old.about self.old.count item) }
         ensures taken { OnSome result (self.new.count ≡ self.old.count + 1) }
         ensures looks { OnSome result (LooksOnce self.old self.new) }
-        ensures none { OnNone result (self.new.count ≡ self.old.count) }
-        ensures empty { OnNone result (FoundNothing self.old self.new) }
+        ensures none { IfNone result (self.new.count ≡ self.old.count) }
+        ensures empty { IfNone result (FoundNothing self.old self.new) }
     {
         if !self.has_item() {
             return None;

@@ -79,13 +79,13 @@ impl<T: Drop, A, C: Course<T, A>> Sender<T, A, C> {
     pub(crate) fn new(
         line: Arc<Line<T, A, C>, Global>,
         pass: LanePass<T, A>,
-        tally: SenderTally,
+        seat: SenderTally,
         about: &A,
         capacity: u32,
     ) -> Self
         requires pass { IsPassOf (arc_value line).queue pass × (knows pass ≡ hand SenderRole about.now capacity 0) }
         requires queue { ruled_capacity (arc_value line).queue ≡ capacity }
-        requires tally { (tally.seat.table_id ≡ (arc_value line).counts.table.shared.table_id) × (tally.seat.me.0 ≡ tally SenderRole 0 []) }
+        requires seat { (seat.seat.table_id ≡ (arc_value line).counts.table.shared.table_id) × (seat.seat.me.0 ≡ tally SenderRole 0 []) }
         requires few { C.total about.now < 2 ^ 63 }
         requires room { 0 < capacity }
         ensures { result ≡ begun about.now capacity }
@@ -93,7 +93,7 @@ impl<T: Drop, A, C: Course<T, A>> Sender<T, A, C> {
         Sender {
             line,
             pass,
-            tally,
+            tally: seat,
             about: Snapshot::of(about),
             capacity: u64::from(capacity),
             count: 0,

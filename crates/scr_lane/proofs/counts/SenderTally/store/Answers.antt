@@ -6,4 +6,4 @@ pub store-requires : goal.store-requires
 store-requires c =
     let words = c.args.counts.now.sized in
     let seat = c.args.self.now.seat in
-    (c.requires.table, (omega arith, store_sent _ seat.id _ seat.me.0 seat.me.1 c.args.self.now.sends c.requires.grows))
+    (c.requires.table, omega arith, store_sent _ seat.id _ seat.me.0 seat.me.1 c.args.self.now.sends c.requires.grows)
