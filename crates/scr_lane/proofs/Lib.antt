@@ -1,3 +1,4 @@
 pub mod TwoViews
 pub mod CountSteps
 pub mod LaneSteps
+pub mod Places

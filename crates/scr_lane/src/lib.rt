@@ -4,13 +4,13 @@
 mod counts;
 mod course;
 mod ends;
+mod lane;
 mod receiver;
 mod sender;
 mod view;
 
-pub use counts::{Counts, ReceiverTally, SenderTally};
-pub use course::{Course, LanePass, LaneQueue, LaneRule};
-pub use ends::{Line, make_ends};
+pub use course::Course;
+pub use ends::make_ends;
+pub use lane::{Lane, LaneOf, Messages, ReceiveEnd, SendEnd};
 pub use receiver::Receiver;
 pub use sender::Sender;
-pub use view::{Hand, Role, Tally};
