@@ -2,3 +2,4 @@ pub mod TwoViews
 pub mod CountSteps
 pub mod LaneSteps
 pub mod Places
+pub mod NextMessage

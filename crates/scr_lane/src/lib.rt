@@ -7,6 +7,8 @@ mod ends;
 mod lane;
 mod receiver;
 mod sender;
+#[cfg(test)]
+mod tests;
 mod view;
 
 pub use course::Course;
