@@ -56,6 +56,7 @@ fn frame_packet(alloc: Global, plan: &RunPlan, n: u32) -> Result<Packet, OutOfMe
 }
 
 // Whether frame n goes to this core.
+#[tactic(auto, unfolding(scr_plan::specs::Delivered::delivered_to, scr_plan::specs::Delivered::delivered))]
 fn goes_to(plan: &RunPlan, core: u32, n: u32) -> bool
     requires first { 1 ≤ n }
     requires last { n ≤ frame_count plan.now }
@@ -130,6 +131,8 @@ impl<'a> Feed<'a> {
         ensures { IfOk result (λ own. MatchOption own (delivers_to self.now.plan.now self.now.core (self.now.sent + 1) ≡ false)
             (λ packet. (delivers_to self.now.plan.now self.now.core (self.now.sent + 1) ≡ true) × Spells (frame self.now.plan.now (self.now.sent + 1)) packet)) }
     {
+        // There are few rows.
+        let _rows = self.plan.rows();
         let n = self.sent + 1;
         if !goes_to(self.plan, self.core, n) {
             return Ok(None);
@@ -139,7 +142,9 @@ impl<'a> Feed<'a> {
 
     /// Whether all numbers were sent.
     pub fn is_done(&self) -> bool
-        ensures { result ≡ false → self.now.sent < frame_count self.now.plan.now }
+        ensures whole { result ≡ true → self.now.sent ≡ frame_count self.now.plan.now }
+        ensures more { result ≡ false → self.now.sent < frame_count self.now.plan.now }
+        ensures few { frame_count self.now.plan.now ≤ 1000000 }
     {
         self.sent as usize == self.plan.rows().len()
     }
