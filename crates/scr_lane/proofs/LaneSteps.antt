@@ -2,7 +2,6 @@
 use Rattle.std.proofs.Common.{◌≡◌, ℕ, ◌+◌, ◌<◌, ◌≤◌, ◌⊎◌, List, [], ◌∷◌, ◌++◌, length, set, sym, refl, ap, ◌∙◌, subst, inl, inr, ⊎_elim, arith, length-append}
 use mathlib.Core.Option.{some}
 use lib.ListN.{get_elem?}
-use Rattle.std.specs.Prelude.{Option, Some, None}
 use Rattle.crossbeam_queue.specs.Fifo.{Pushes, Pops, Forks}
 use Rattle.scr_lane.specs.declared.view.Role.{Role}
 use Rattle.scr_lane.specs.declared.view.Role.TheVariants.{Both, Sender, Receiver}
@@ -20,8 +19,8 @@ fit_snoc fits place (x ∷ items) item all it =
     (all.0, fit_snoc fits (place + 1) items item all.1 (subst (λ (k : ℕ). fits k item) there it))
 
 module _ {A : Type 0} where
-  blank_there : {T : Type 0} (items : List T) (views : List (Hand A)) → IsBlank items views → (id : ℕ) (v : Hand A) → get_elem? views id ≡ some v → (id ≡ 0) × (blank ≡ v)
-  blank_there items views h id v at = one_there blank v id (ap (λ (l : List (Hand A)). get_elem? l id) (sym h.pass) ∙ at)
+  blank_there : {T : Type 0} (nothing : A) (items : List T) (views : List (Hand A)) → IsBlank nothing items views → (id : ℕ) (v : Hand A) → get_elem? views id ≡ some v → (id ≡ 0) × (blank nothing ≡ v)
+  blank_there nothing items views h id v at = one_there (blank nothing) v id (ap (λ (l : List (Hand A)). get_elem? l id) (sym h.pass) ∙ at)
 
   set_first : (views : List (Hand A)) (a b w : Hand A) (id : ℕ) → views ≡ a ∷ b ∷ [] → id ≡ 0 → set views id w ≡ w ∷ b ∷ []
   set_first views a b w id e z = ap (λ (l : List (Hand A)). set l id w) e ∙ ap (λ (i : ℕ). set (a ∷ b ∷ []) i w) z
@@ -29,9 +28,9 @@ module _ {A : Type 0} where
   set_second : (views : List (Hand A)) (a b w : Hand A) (id : ℕ) → views ≡ a ∷ b ∷ [] → id ≡ 1 → set views id w ≡ a ∷ w ∷ []
   set_second views a b w id e z = ap (λ (l : List (Hand A)). set l id w) e ∙ ap (λ (i : ℕ). set (a ∷ b ∷ []) i w) z
 
-module _ {T A : Type 0} (total : A → ℕ) (fits : A → ℕ → T → Type 0) where
+module _ {T A : Type 0} (total : A → ℕ) (fits : A → ℕ → T → Type 0) (nothing : A) where
   abbrev Rule : List T → List (Hand A) → Type 0
-  Rule = InLane total fits
+  Rule = InLane total fits nothing
 
   abbrev Way : List T → List (Hand A) → Type 0
   Way = IsUnderWay total fits
@@ -41,10 +40,7 @@ module _ {T A : Type 0} (total : A → ℕ) (fits : A → ℕ → T → Type 0) 
       → ((id ≡ 0) × (hand Sender p.about p.capacity p.sent ≡ v)) ⊎ ((id ≡ 1) × (hand Receiver p.about p.capacity p.taken ≡ v))
   ends items views p id v at = two_there _ _ v id (ap (λ (l : List (Hand A)). get_elem? l id) (sym p.ends) ∙ at)
 
-  abbrev about_or : A → Hand A → A
-  about_or a h = elim h.about [ Some b ↦ b | None ↦ a ]
-
-  pub begins : Rule [] (blank ∷ [])
+  pub begins : Rule [] (blank nothing ∷ [])
   begins = inl record { pass = refl; empty = refl }
 
   -- the ends get one lane and one capacity
@@ -53,14 +49,14 @@ module _ {T A : Type 0} (total : A → ℕ) (fits : A → ℕ → T → Type 0) 
       let left : Hand A = hand Sender a n 0 in
       let right : Hand A = hand Receiver a n 0 in
       ⊎_elim
-      (λ (h : IsBlank items views).
-          let is = blank_there items views h id v at in
+      (λ (h : IsBlank nothing items views).
+          let is = blank_there nothing items views h id v at in
           inr record {
             about = a;
             capacity = n;
             sent = 0;
             taken = 0;
-            ends = ap (λ (l : List (Hand A)). set l id left ++ right ∷ []) h.pass ∙ ap (λ (i : ℕ). set (blank ∷ []) i left ++ right ∷ []) is.0;
+            ends = ap (λ (l : List (Hand A)). set l id left ++ right ∷ []) h.pass ∙ ap (λ (i : ℕ). set (blank nothing ∷ []) i left ++ right ∷ []) is.0;
             order = omega arith;
             within = omega arith;
             room = omega arith;
@@ -81,11 +77,11 @@ module _ {T A : Type 0} (total : A → ℕ) (fits : A → ℕ → T → Type 0) 
       let v : Hand A = hand Sender a n count in
       let w : Hand A = hand Sender a n (count + 1) in
       ⊎_elim
-      (λ (h : IsBlank items views). let e : Both ≡ Sender = ap (λ (h : Hand A). h.role) (blank_there items views h id v at).1 in absurd cc)
+      (λ (h : IsBlank nothing items views). let e : Both ≡ Sender = ap (λ (h : Hand A). h.role) (blank_there nothing items views h id v at).1 in absurd cc)
       (λ (p : Way items views).
           ⊎_elim
           (λ (is : (id ≡ 0) × (hand Sender p.about p.capacity p.sent ≡ v)).
-              let same : p.about ≡ a = ap (about_or a) is.1 in
+              let same : p.about ≡ a = ap (λ (h : Hand A). h.about) is.1 in
               let room : p.capacity ≡ n = ap (λ (h : Hand A). h.capacity) is.1 in
               let sent : p.sent ≡ count = ap (λ (h : Hand A). h.count) is.1 in
               let order : p.taken ≤ p.sent = p.order in
@@ -112,17 +108,17 @@ module _ {T A : Type 0} (total : A → ℕ) (fits : A → ℕ → T → Type 0) 
 
   -- the receiver's next item leaves at the front
   pub pops : (id : ℕ) (a : A) (n count : ℕ)
-      → Pops Rule id (hand Receiver a n count) (λ x w. (w ≡ hand Receiver a n (count + 1)) × (fits a count x × (count < total a)))
+      → Pops Rule id (hand Receiver a n count) (λ x w. (w ≡ hand Receiver a n (count + 1)) × fits a count x × (count < total a))
   pops id a n count x items views holds at =
       let v : Hand A = hand Receiver a n count in
       let w : Hand A = hand Receiver a n (count + 1) in
       ⊎_elim
-      (λ (h : IsBlank (x ∷ items) views). let e : Both ≡ Receiver = ap (λ (h : Hand A). h.role) (blank_there (x ∷ items) views h id v at).1 in absurd cc)
+      (λ (h : IsBlank nothing (x ∷ items) views). let e : Both ≡ Receiver = ap (λ (h : Hand A). h.role) (blank_there nothing (x ∷ items) views h id v at).1 in absurd cc)
       (λ (p : Way (x ∷ items) views).
           ⊎_elim
           (λ (is : (id ≡ 0) × (hand Sender p.about p.capacity p.sent ≡ v)). let e : Sender ≡ Receiver = ap (λ (h : Hand A). h.role) is.1 in absurd cc)
           (λ (is : (id ≡ 1) × (hand Receiver p.about p.capacity p.taken ≡ v)).
-              let same : p.about ≡ a = ap (about_or a) is.1 in
+              let same : p.about ≡ a = ap (λ (h : Hand A). h.about) is.1 in
               let room : p.capacity ≡ n = ap (λ (h : Hand A). h.capacity) is.1 in
               let taken : p.taken ≡ count = ap (λ (h : Hand A). h.count) is.1 in
               let under_way : p.taken + length (x ∷ items) ≡ p.sent = p.count in
@@ -143,7 +139,7 @@ module _ {T A : Type 0} (total : A → ℕ) (fits : A → ℕ → T → Type 0) 
                   count = omega arith;
                   fit = fit.1;
                 },
-                (refl, (fit.0, omega arith)),
+                (refl, fit.0, omega arith),
               ))
           (ends (x ∷ items) views p id v at))
       holds

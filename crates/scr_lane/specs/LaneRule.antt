@@ -1,7 +1,7 @@
 -- The rule of a lane's queue. A lane is a list of items that one end sends and the other takes, in order. Which item may
 -- stand at which place, counted from 0, is given by `fits`, and how many there are by `total`, so that the same rule
 -- serves every kind of lane.
-use Rattle.std.specs.Prelude.{◌≡◌, ℕ, ◌+◌, ◌<◌, ◌≤◌, ◌⊎◌, List, [], ◌∷◌, length, IfSome}
+use Rattle.std.specs.Prelude.{◌≡◌, ℕ, ◌+◌, ◌<◌, ◌≤◌, ◌⊎◌, List, [], ◌∷◌, length, Option, Some, None}
 use Rattle.scr_lane.specs.declared.view.Role.TheVariants.{Sender, Receiver}
 use Rattle.scr_lane.specs.declared.view.Hand.{Hand}
 use Rattle.scr_lane.specs.Views.{hand, blank}
@@ -12,8 +12,8 @@ FitFrom fits place [] = Unit {0}
 FitFrom fits place (item ∷ items) = fits place item × FitFrom fits (place + 1) items
 
 -- before the ends are parted, one pass is both, and the queue is empty
-pub record IsBlank {T A : Type 0} (items : List T) (views : List (Hand A)) : Type 0 where
-  pub pass : views ≡ blank ∷ []
+pub record IsBlank {T A : Type 0} (nothing : A) (items : List T) (views : List (Hand A)) : Type 0 where
+  pub pass : views ≡ blank nothing ∷ []
   pub empty : items ≡ []
 
 module _ {T A : Type 0} (total : A → ℕ) (fits : A → ℕ → T → Type 0) where
@@ -32,8 +32,8 @@ module _ {T A : Type 0} (total : A → ℕ) (fits : A → ℕ → T → Type 0) 
     pub count : taken + length items ≡ sent
     pub fit : FitFrom (fits about) taken items
 
-  abbrev pub InLane : List T → List (Hand A) → Type 0
-  InLane items views = IsBlank items views ⊎ IsUnderWay items views
+  abbrev pub InLane : (nothing : A) → List T → List (Hand A) → Type 0
+  InLane nothing items views = IsBlank nothing items views ⊎ IsUnderWay items views
 
 -- one item more was sent or taken
 abbrev pub one_more : {A : Type 0} → Hand A → Hand A
@@ -45,4 +45,9 @@ Sends v item w = w ≡ one_more v
 
 -- a pop: one item more was taken, and it fits its place in the lane
 abbrev pub Takes : {T A : Type 0} → (A → ℕ) → (A → ℕ → T → Type 0) → Hand A → T → Hand A → Type 0
-Takes total fits v item w = (w ≡ one_more v) × IfSome v.about (λ about. fits about v.count item × (v.count < total about))
+Takes total fits v item w = (w ≡ one_more v) × fits v.about v.count item × (v.count < total v.about)
+
+-- what was picked, where something was
+abbrev pub picked_or : {A : Type 0} → A → Option A → A
+picked_or about None = about
+picked_or about (Some picked) = picked

@@ -15,6 +15,10 @@ pub record Route : Type 0 where
 abbrev pub route : Plan → (core : ℕ) → Route
 route plan core = record { plan = plan; core = core }
 
+-- a lane of no plan
+abbrev pub no_route : Route
+no_route = route (record { rows = []; cores = 1; history = 0; drops = [] }) 0
+
 -- how many messages it has
 abbrev pub message_count : Route → ℕ
 message_count route = length (lane route.plan route.core)

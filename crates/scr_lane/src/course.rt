@@ -14,6 +14,9 @@ pub trait Course<T, A> {
     /// The item may stand at this place, counted from 0.
     ghost fits: { A → ℕ → T → Type 0 };
 
+    /// What a queue is about before its ends are parted. It means nothing.
+    ghost nothing: { A };
+
     /// No item stands behind the last.
     ghost within: { (about : A) (place : ℕ) (item : T) → fits about place item → place < total about };
 }
@@ -27,9 +30,9 @@ impl<T, A, C: Course<T, A>> Protocol<T, Hand<A>> for LaneRule<C> {
     ghost use Rattle.scr_lane.specs.Views.{blank};
     ghost use Rattle.scr_lane.specs.LaneRule.{InLane};
 
-    ghost holds = { InLane C.total C.fits };
+    ghost holds = { InLane C.total C.fits C.nothing };
 
-    ghost first = { blank };
+    ghost first = { blank C.nothing };
 }
 
 /// The queue of a lane, and what one end knows of it.
@@ -81,8 +84,10 @@ pub struct Parting<B> {
 
 impl<A, B: Cut<A>> Split<Hand<A>> for Parting<B> {
     ghost use Rattle.scr_lane.specs.declared.view.Role.TheVariants.{Sender, Receiver};
+    ghost use Rattle.scr_lane.specs.Views.{hand};
+    ghost use Rattle.scr_lane.specs.LaneRule.{picked_or};
 
-    ghost left = { λ _. record { role = Sender; about = B.about; capacity = B.capacity; count = 0 } };
+    ghost left = { λ v. hand Sender (picked_or v.about B.about) B.capacity 0 };
 
-    ghost right = { λ _. record { role = Receiver; about = B.about; capacity = B.capacity; count = 0 } };
+    ghost right = { λ v. hand Receiver (picked_or v.about B.about) B.capacity 0 };
 }

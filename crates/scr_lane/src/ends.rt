@@ -27,7 +27,7 @@ fn part<T, A, C: Course<T, A>, B: Cut<A>>(
     about: &A,
     capacity: u32,
 ) -> LanePass<T, A>
-    requires queue { IsPassOf queue.now pass.old × (knows pass.old ≡ blank) }
+    requires queue { IsPassOf queue.now pass.old × (knows pass.old ≡ blank C.nothing) }
     requires picked { (B.about ≡ Some about.now) × (B.capacity ≡ capacity) }
     ensures same { IsSamePass pass.old pass.new × IsPassOf queue.now result }
     ensures sender { knows pass.new ≡ hand SenderRole about.now capacity 0 }
@@ -53,7 +53,7 @@ pub fn make_ends<T: Drop, A, C: Course<T, A>>(
     let line = Arc::new(alloc, Line { queue, counts })?;
     let theirs = Arc::try_clone(&line)?;
     Ok((
-        Sender::new(line, pass, sending, about, capacity),
-        Receiver::new(theirs, other, receiving, about, capacity),
+        Sender::new(line, pass, sending, capacity),
+        Receiver::new(theirs, other, receiving, capacity),
     ))
 }

@@ -34,12 +34,14 @@ impl Model for LaneOf {
 pub struct Messages;
 
 impl Course<Packet, LaneOf> for Messages {
-    ghost use Rattle.scr_lane.specs.Messages.{message_count, SpellsMessage};
+    ghost use Rattle.scr_lane.specs.Messages.{message_count, no_route, SpellsMessage};
     ghost use Rattle.scr_lane.specs.Messages.{stands_within};
 
     ghost total = { message_count };
 
     ghost fits = { SpellsMessage };
+
+    ghost nothing = { no_route };
 
     ghost within = { stands_within };
 }

@@ -14,7 +14,6 @@ use crate::ends::Line;
 use crossbeam_utils::Backoff;
 use std::alloc::Global;
 use std::marker::Model;
-use std::snapshot::Snapshot;
 use std::sync::{Arc, Wait};
 
 /// The end of a lane that takes items, in order.
@@ -23,7 +22,6 @@ pub struct Receiver<T: Drop, A, C: Course<T, A>> {
     line: Arc<Line<T, A, C>, Global>,
     pass: LanePass<T, A>,
     tally: ReceiverTally,
-    about: Snapshot<A>,
     capacity: u64,
     count: u64,
     // What the last look found. The other's count never falls, so an item that was seen once is still there.
@@ -40,14 +38,14 @@ impl<T: Drop, A, C: Course<T, A>> Model for Receiver<T, A, C> {
 
     ghost Value = { End A };
 
-    ghost view = { λ e. record { about = e.about.value; capacity = e.capacity; count = e.count; looks = e.tally.seat.me.0.looks } };
+    ghost view = { λ e. record { about = (knows e.pass).about; capacity = e.capacity; count = e.count; looks = e.tally.seat.me.0.looks } };
 
     ghost invariant = { λ e.
         (IsPassOf (arc_value e.line).queue e.pass)
-        × (knows e.pass ≡ hand ReceiverRole e.about.value e.capacity e.count)
+        × (knows e.pass ≡ hand ReceiverRole (knows e.pass).about e.capacity e.count)
         × (e.tally.seat.table_id ≡ (arc_value e.line).counts.table.shared.table_id)
         × (e.tally.seat.me.0.stored ≡ e.count)
-        × (C.total e.about.value < 2 ^ 63) };
+        × (C.total (knows e.pass).about < 2 ^ 63) };
 }
 
 // Tries until the queue gives an item.
@@ -57,7 +55,7 @@ fn fetch<T, A, C: Course<T, A>, R: Wait>(
     pass: &mut LanePass<T, A>,
 ) -> T
     requires queue { IsPassOf queue.now pass.old }
-    requires rule { Pops (InLane C.total C.fits) pass.old.id (knows pass.old) (Takes C.total C.fits (knows pass.old)) }
+    requires rule { Pops (InLane C.total C.fits C.nothing) pass.old.id (knows pass.old) (Takes C.total C.fits (knows pass.old)) }
     ensures queue { IsSamePass pass.old pass.new }
     ensures rule { Takes C.total C.fits (knows pass.old) result (knows pass.new) }
 {
@@ -76,19 +74,17 @@ impl<T: Drop, A, C: Course<T, A>> Receiver<T, A, C> {
         line: Arc<Line<T, A, C>, Global>,
         pass: LanePass<T, A>,
         seat: ReceiverTally,
-        about: &A,
         capacity: u32,
     ) -> Self
-        requires pass { IsPassOf (arc_value line).queue pass × (knows pass ≡ hand ReceiverRole about.now capacity 0) }
+        requires pass { IsPassOf (arc_value line).queue pass × (knows pass ≡ hand ReceiverRole (knows pass).about capacity 0) }
         requires seat { (seat.seat.table_id ≡ (arc_value line).counts.table.shared.table_id) × (seat.seat.me.0 ≡ tally ReceiverRole 0 []) }
-        requires few { C.total about.now < 2 ^ 63 }
-        ensures { result ≡ begun about.now capacity }
+        requires few { C.total (knows pass).about < 2 ^ 63 }
+        ensures { result ≡ begun (knows pass).about capacity }
     {
         Receiver {
             line,
             pass,
             tally: seat,
-            about: Snapshot::of(about),
             capacity: u64::from(capacity),
             count: 0,
             sent: 0,

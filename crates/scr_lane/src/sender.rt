@@ -14,7 +14,6 @@ use crate::ends::Line;
 use crossbeam_utils::Backoff;
 use std::alloc::Global;
 use std::marker::Model;
-use std::snapshot::Snapshot;
 use std::sync::{Arc, Wait};
 
 /// The end of a lane that sends items, in order.
@@ -23,7 +22,6 @@ pub struct Sender<T: Drop, A, C: Course<T, A>> {
     line: Arc<Line<T, A, C>, Global>,
     pass: LanePass<T, A>,
     tally: SenderTally,
-    about: Snapshot<A>,
     capacity: u64,
     count: u64,
     // What the last look found. The other's count never falls, so room that was seen once is still there.
@@ -40,15 +38,15 @@ impl<T: Drop, A, C: Course<T, A>> Model for Sender<T, A, C> {
 
     ghost Value = { End A };
 
-    ghost view = { λ e. record { about = e.about.value; capacity = e.capacity; count = e.count; looks = e.tally.seat.me.0.looks } };
+    ghost view = { λ e. record { about = (knows e.pass).about; capacity = e.capacity; count = e.count; looks = e.tally.seat.me.0.looks } };
 
     ghost invariant = { λ e.
         (IsPassOf (arc_value e.line).queue e.pass)
-        × (knows e.pass ≡ hand SenderRole e.about.value e.capacity e.count)
+        × (knows e.pass ≡ hand SenderRole (knows e.pass).about e.capacity e.count)
         × (ruled_capacity (arc_value e.line).queue ≡ e.capacity)
         × (e.tally.seat.table_id ≡ (arc_value e.line).counts.table.shared.table_id)
         × (e.tally.seat.me.0.stored ≡ e.count)
-        × (C.total e.about.value < 2 ^ 63)
+        × (C.total (knows e.pass).about < 2 ^ 63)
         × (0 < e.capacity) };
 }
 
@@ -60,7 +58,7 @@ fn put<T, A, C: Course<T, A>, R: Wait>(
     mut item: T,
 )
     requires queue { IsPassOf queue.now pass.old }
-    requires rule { Pushes (InLane C.total C.fits) (ruled_capacity queue.now) pass.old.id (knows pass.old) item (Sends (knows pass.old) item) }
+    requires rule { Pushes (InLane C.total C.fits C.nothing) (ruled_capacity queue.now) pass.old.id (knows pass.old) item (Sends (knows pass.old) item) }
     ensures queue { IsSamePass pass.old pass.new }
     ensures rule { knows pass.new ≡ one_more (knows pass.old) }
 {
@@ -80,21 +78,19 @@ impl<T: Drop, A, C: Course<T, A>> Sender<T, A, C> {
         line: Arc<Line<T, A, C>, Global>,
         pass: LanePass<T, A>,
         seat: SenderTally,
-        about: &A,
         capacity: u32,
     ) -> Self
-        requires pass { IsPassOf (arc_value line).queue pass × (knows pass ≡ hand SenderRole about.now capacity 0) }
+        requires pass { IsPassOf (arc_value line).queue pass × (knows pass ≡ hand SenderRole (knows pass).about capacity 0) }
         requires queue { ruled_capacity (arc_value line).queue ≡ capacity }
         requires seat { (seat.seat.table_id ≡ (arc_value line).counts.table.shared.table_id) × (seat.seat.me.0 ≡ tally SenderRole 0 []) }
-        requires few { C.total about.now < 2 ^ 63 }
+        requires few { C.total (knows pass).about < 2 ^ 63 }
         requires room { 0 < capacity }
-        ensures { result ≡ begun about.now capacity }
+        ensures { result ≡ begun (knows pass).about capacity }
     {
         Sender {
             line,
             pass,
             tally: seat,
-            about: Snapshot::of(about),
             capacity: u64::from(capacity),
             count: 0,
             taken: 0,

@@ -5,6 +5,7 @@ use scr_wire::MessageKind;
 use std::alloc::Global;
 use std::test::Fail;
 
+mod crossing;
 mod feed;
 mod taking;
 

@@ -10,7 +10,7 @@ pub enum Role {
 /// What the rule of the queue sees of a pass. No value of it is made.
 pub struct Hand<A> {
     pub role: Role,
-    pub about: Option<A>,
+    pub about: A,
     pub capacity: u64,
     pub count: u64,
 }
