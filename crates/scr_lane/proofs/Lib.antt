@@ -1,3 +1,4 @@
+pub mod LastLook
 pub mod TwoViews
 pub mod CountSteps
 pub mod LaneSteps

@@ -1,8 +1,10 @@
 //! The two words beside a queue: how many items the sender has sent, and how many the receiver has taken.
 ghost use Rattle.std.specs.Prelude.{◌≡◌, ◌≤◌, ℕ, List, [], ◌∷◌, ◌++◌, IfOk};
 ghost use Rattle.scr_lane.specs.declared.view.Role.TheVariants.{Sender, Receiver};
+ghost use Rattle.crossbeam_queue.specs.Passes.{view as knows};
 ghost use Rattle.scr_lane.specs.Views.{tally};
 
+use crate::course::LanePass;
 use crate::view::Tally;
 use atomic_table::{Play, Seat, Split, Table, TableRule};
 use std::alloc::{AllocError, Global};
@@ -94,13 +96,15 @@ impl Counts {
 }
 
 impl SenderTally {
-    /// Stores how many items were sent.
-    pub fn store(&mut self, counts: &Counts, sent: u64)
+    /// Stores how many items were sent. The pass shows that they were.
+    pub fn store<T, A>(&mut self, counts: &Counts, pass: &LanePass<T, A>, sent: u64)
+        requires shown { (knows pass.now).count ≡ sent }
         requires table { self.old.seat.table_id ≡ counts.now.table.shared.table_id }
         requires grows { self.old.seat.me.0.stored ≤ sent }
         ensures table { self.new.seat.table_id ≡ self.old.seat.table_id }
         ensures stored { self.new.seat.me.0 ≡ tally Sender sent self.old.seat.me.0.looks }
     {
+        let _ = pass;
         counts.table.shared.store::<Store>(&mut self.seat, SENT, sent);
     }
 
@@ -115,13 +119,15 @@ impl SenderTally {
 }
 
 impl ReceiverTally {
-    /// Stores how many items were taken.
-    pub fn store(&mut self, counts: &Counts, taken: u64)
+    /// Stores how many items were taken. The pass shows that they were.
+    pub fn store<T, A>(&mut self, counts: &Counts, pass: &LanePass<T, A>, taken: u64)
+        requires shown { (knows pass.now).count ≡ taken }
         requires table { self.old.seat.table_id ≡ counts.now.table.shared.table_id }
         requires grows { self.old.seat.me.0.stored ≤ taken }
         ensures table { self.new.seat.table_id ≡ self.old.seat.table_id }
         ensures stored { self.new.seat.me.0 ≡ tally Receiver taken self.old.seat.me.0.looks }
     {
+        let _ = pass;
         counts.table.shared.store::<Store>(&mut self.seat, TAKEN, taken);
     }
 

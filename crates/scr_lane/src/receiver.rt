@@ -6,7 +6,7 @@ ghost use Rattle.crossbeam_queue.specs.Passes.{view as knows, IsSamePass, IsPass
 ghost use Rattle.scr_lane.specs.declared.view.Role.TheVariants.{Receiver as ReceiverRole};
 ghost use Rattle.scr_lane.specs.Views.{hand, tally};
 ghost use Rattle.scr_lane.specs.LaneRule.{InLane, Takes};
-ghost use Rattle.scr_lane.specs.Ends.{begun, IsSameLane, LooksOnce, FoundNothing};
+ghost use Rattle.scr_lane.specs.Ends.{begun, IsSameLane, LooksOnce, ShowsItem, FoundNothing, last_or};
 
 use crate::counts::ReceiverTally;
 use crate::course::{Course, LanePass, LaneQueue, Take};
@@ -34,7 +34,7 @@ impl<T: Drop, A, C: Course<T, A>> Model for Receiver<T, A, C> {
     ghost use Rattle.crossbeam_queue.specs.Passes.{view as knows, IsPassOf};
     ghost use Rattle.scr_lane.specs.declared.view.Role.TheVariants.{Receiver as ReceiverRole};
     ghost use Rattle.scr_lane.specs.Views.{hand};
-    ghost use Rattle.scr_lane.specs.Ends.{End};
+    ghost use Rattle.scr_lane.specs.Ends.{End, last_or};
 
     ghost Value = { End A };
 
@@ -45,7 +45,8 @@ impl<T: Drop, A, C: Course<T, A>> Model for Receiver<T, A, C> {
         × (knows e.pass ≡ hand ReceiverRole (knows e.pass).about e.capacity e.count)
         × (e.tally.seat.table_id ≡ (arc_value e.line).counts.table.shared.table_id)
         × (e.tally.seat.me.0.stored ≡ e.count)
-        × (C.total (knows e.pass).about < 2 ^ 63) };
+        × (C.total (knows e.pass).about < 2 ^ 63)
+        × (e.sent ≡ last_or 0 e.tally.seat.me.0.looks) };
 }
 
 // Tries until the queue gives an item.
@@ -70,6 +71,7 @@ fn fetch<T, A, C: Course<T, A>, R: Wait>(
 }
 
 impl<T: Drop, A, C: Course<T, A>> Receiver<T, A, C> {
+    #[tactic(auto, using(crate::proofs::LastLook::last_or_none))]
     pub(crate) fn new(
         line: Arc<Line<T, A, C>, Global>,
         pass: LanePass<T, A>,
@@ -92,10 +94,12 @@ impl<T: Drop, A, C: Course<T, A>> Receiver<T, A, C> {
     }
 
     // Whether more items were sent than were taken. It looks where the last look doesn't show it.
+    #[tactic(auto, using(crate::proofs::LastLook::last_or_snoc))]
     fn has_item(&mut self) -> bool
         ensures lane { IsSameLane self.old self.new }
         ensures count { self.new.count ≡ self.old.count }
-        ensures looks { MatchBool result (LooksOnce self.old self.new) (FoundNothing self.old self.new) }
+        ensures looks { LooksOnce self.old self.new }
+        ensures found { MatchBool result (ShowsItem self.old self.new) (FoundNothing self.old self.new) }
     {
         if self.count < self.sent {
             return true;
@@ -111,6 +115,7 @@ impl<T: Drop, A, C: Course<T, A>> Receiver<T, A, C> {
         ensures some { IfSome result (λ item. C.fits self.old.about self.old.count item) }
         ensures taken { OnSome result (self.new.count ≡ self.old.count + 1) }
         ensures looks { OnSome result (LooksOnce self.old self.new) }
+        ensures item { OnSome result (ShowsItem self.old self.new) }
         ensures none { IfNone result (self.new.count ≡ self.old.count) }
         ensures empty { IfNone result (FoundNothing self.old self.new) }
     {
@@ -119,7 +124,7 @@ impl<T: Drop, A, C: Course<T, A>> Receiver<T, A, C> {
         }
         let item = fetch(rt, &self.line.queue, &mut self.pass);
         self.count += 1;
-        self.tally.store(&self.line.counts, self.count);
+        self.tally.store(&self.line.counts, &self.pass, self.count);
         Some(item)
     }
 }

@@ -6,7 +6,7 @@ ghost use Rattle.crossbeam_queue.specs.Passes.{view as knows, IsSamePass, IsPass
 ghost use Rattle.scr_lane.specs.declared.view.Role.TheVariants.{Sender as SenderRole};
 ghost use Rattle.scr_lane.specs.Views.{hand, tally};
 ghost use Rattle.scr_lane.specs.LaneRule.{InLane, Sends, one_more};
-ghost use Rattle.scr_lane.specs.Ends.{begun, IsSameLane, LooksOnce, FoundNoRoom};
+ghost use Rattle.scr_lane.specs.Ends.{begun, IsSameLane, LooksOnce, ShowsRoom, FoundNoRoom, last_or};
 
 use crate::counts::SenderTally;
 use crate::course::{Course, LanePass, LaneQueue, Send};
@@ -34,7 +34,7 @@ impl<T: Drop, A, C: Course<T, A>> Model for Sender<T, A, C> {
     ghost use Rattle.crossbeam_queue.specs.Passes.{view as knows, IsPassOf, ruled_capacity};
     ghost use Rattle.scr_lane.specs.declared.view.Role.TheVariants.{Sender as SenderRole};
     ghost use Rattle.scr_lane.specs.Views.{hand};
-    ghost use Rattle.scr_lane.specs.Ends.{End};
+    ghost use Rattle.scr_lane.specs.Ends.{End, last_or};
 
     ghost Value = { End A };
 
@@ -47,7 +47,8 @@ impl<T: Drop, A, C: Course<T, A>> Model for Sender<T, A, C> {
         × (e.tally.seat.table_id ≡ (arc_value e.line).counts.table.shared.table_id)
         × (e.tally.seat.me.0.stored ≡ e.count)
         × (C.total (knows e.pass).about < 2 ^ 63)
-        × (0 < e.capacity) };
+        × (0 < e.capacity)
+        × (e.taken ≡ last_or 0 e.tally.seat.me.0.looks) };
 }
 
 // Tries until the queue takes the item.
@@ -74,6 +75,7 @@ fn put<T, A, C: Course<T, A>, R: Wait>(
 }
 
 impl<T: Drop, A, C: Course<T, A>> Sender<T, A, C> {
+    #[tactic(auto, using(crate::proofs::LastLook::last_or_none))]
     pub(crate) fn new(
         line: Arc<Line<T, A, C>, Global>,
         pass: LanePass<T, A>,
@@ -98,10 +100,12 @@ impl<T: Drop, A, C: Course<T, A>> Sender<T, A, C> {
     }
 
     // Whether fewer items are under way than there may be. It looks where the last look doesn't show it.
+    #[tactic(auto, using(crate::proofs::LastLook::last_or_snoc))]
     fn has_room(&mut self) -> bool
         ensures lane { IsSameLane self.old self.new }
         ensures count { self.new.count ≡ self.old.count }
-        ensures looks { MatchBool result (LooksOnce self.old self.new) (FoundNoRoom self.old self.new) }
+        ensures looks { LooksOnce self.old self.new }
+        ensures found { MatchBool result (ShowsRoom self.old self.new) (FoundNoRoom self.old self.new) }
     {
         if self.count.saturating_sub(self.taken) < self.capacity {
             return true;
@@ -117,6 +121,7 @@ impl<T: Drop, A, C: Course<T, A>> Sender<T, A, C> {
         ensures lane { IsSameLane self.old self.new }
         ensures ok { OnOk result (self.new.count ≡ self.old.count + 1) }
         ensures looks { OnOk result (LooksOnce self.old self.new) }
+        ensures room { OnOk result (ShowsRoom self.old self.new) }
         ensures err { IfErr result (λ back. (back ≡ item) × (self.new.count ≡ self.old.count)) }
         ensures full { OnErr result (FoundNoRoom self.old self.new) }
     {
@@ -125,7 +130,7 @@ impl<T: Drop, A, C: Course<T, A>> Sender<T, A, C> {
         }
         put(rt, &self.line.queue, &mut self.pass, item);
         self.count += 1;
-        self.tally.store(&self.line.counts, self.count);
+        self.tally.store(&self.line.counts, &self.pass, self.count);
         Ok(())
     }
 }
