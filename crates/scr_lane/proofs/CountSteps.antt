@@ -59,26 +59,26 @@ store_sent slots id new v c sends grows s holds wide at low =
     ⊎_elim
     (λ (h : IsWhole s.words s.views). let e : Sender ≡ Both = sym sends ∙ not_whole s.words s.views h id v at in absurd cc)
     (λ (p : IsParted s.words s.views).
-        ⊎_elim
-        (λ (is : (id ≡ 0) × (tally Sender p.sent p.looks_of_sender ≡ v)).
-            let was : p.sent ≡ v.stored = ap (λ (t : Tally). t.stored) is.1 in (
-              tally Sender new p.looks_of_sender,
-              keeps,
-              tt,
-              inr record {
-                sent = new;
-                taken = p.taken;
-                looks_of_sender = p.looks_of_sender;
-                looks_of_receiver = p.looks_of_receiver;
-                words_are = with_sent s.words p.sent p.taken new p.words_are;
-                seats = set_first s.views _ _ _ id p.seats is.0;
-                sender_found = p.sender_found;
-                receiver_found = found_more p.sent new p.looks_of_receiver (omega arith) p.receiver_found;
-              },
-              ap (λ (t : Tally). (tally t.role new t.looks, c)) is.1,
-            ))
-        (λ (is : (id ≡ 1) × (tally Receiver p.taken p.looks_of_receiver ≡ v)). let e : Receiver ≡ Sender = ap (λ (t : Tally). t.role) is.1 ∙ sends in absurd cc)
-        (roles s.views s.words p id v at))
+    ⊎_elim
+    (λ (is : (id ≡ 0) × (tally Sender p.sent p.looks_of_sender ≡ v)).
+    let was : p.sent ≡ v.stored = ap (λ (t : Tally). t.stored) is.1 in (
+      tally Sender new p.looks_of_sender,
+      keeps,
+      tt,
+      inr record {
+        sent = new;
+        taken = p.taken;
+        looks_of_sender = p.looks_of_sender;
+        looks_of_receiver = p.looks_of_receiver;
+        words_are = with_sent s.words p.sent p.taken new p.words_are;
+        seats = set_first s.views _ _ _ id p.seats is.0;
+        sender_found = p.sender_found;
+        receiver_found = found_more p.sent new p.looks_of_receiver (omega arith) p.receiver_found;
+      },
+      ap (λ (t : Tally). (tally t.role new t.looks, c)) is.1,
+    ))
+    (λ (is : (id ≡ 1) × (tally Receiver p.taken p.looks_of_receiver ≡ v)). let e : Receiver ≡ Sender = ap (λ (t : Tally). t.role) is.1 ∙ sends in absurd cc)
+    (roles s.views s.words p id v at))
     holds
 
 pub store_taken : (slots id new : ℕ) (v : Tally) (c : Slots) → v.role ≡ Receiver → v.stored ≤ new
@@ -87,26 +87,26 @@ store_taken slots id new v c takes grows s holds wide at low =
     ⊎_elim
     (λ (h : IsWhole s.words s.views). let e : Receiver ≡ Both = sym takes ∙ not_whole s.words s.views h id v at in absurd cc)
     (λ (p : IsParted s.words s.views).
-        ⊎_elim
-        (λ (is : (id ≡ 0) × (tally Sender p.sent p.looks_of_sender ≡ v)). let e : Sender ≡ Receiver = ap (λ (t : Tally). t.role) is.1 ∙ takes in absurd cc)
-        (λ (is : (id ≡ 1) × (tally Receiver p.taken p.looks_of_receiver ≡ v)).
-            let was : p.taken ≡ v.stored = ap (λ (t : Tally). t.stored) is.1 in (
-              tally Receiver new p.looks_of_receiver,
-              keeps,
-              tt,
-              inr record {
-                sent = p.sent;
-                taken = new;
-                looks_of_sender = p.looks_of_sender;
-                looks_of_receiver = p.looks_of_receiver;
-                words_are = with_taken s.words p.sent p.taken new p.words_are;
-                seats = set_second s.views _ _ _ id p.seats is.0;
-                sender_found = found_more p.taken new p.looks_of_sender (omega arith) p.sender_found;
-                receiver_found = p.receiver_found;
-              },
-              ap (λ (t : Tally). (tally t.role new t.looks, c)) is.1,
-            ))
-        (roles s.views s.words p id v at))
+    ⊎_elim
+    (λ (is : (id ≡ 0) × (tally Sender p.sent p.looks_of_sender ≡ v)). let e : Sender ≡ Receiver = ap (λ (t : Tally). t.role) is.1 ∙ takes in absurd cc)
+    (λ (is : (id ≡ 1) × (tally Receiver p.taken p.looks_of_receiver ≡ v)).
+    let was : p.taken ≡ v.stored = ap (λ (t : Tally). t.stored) is.1 in (
+      tally Receiver new p.looks_of_receiver,
+      keeps,
+      tt,
+      inr record {
+        sent = p.sent;
+        taken = new;
+        looks_of_sender = p.looks_of_sender;
+        looks_of_receiver = p.looks_of_receiver;
+        words_are = with_taken s.words p.sent p.taken new p.words_are;
+        seats = set_second s.views _ _ _ id p.seats is.0;
+        sender_found = found_more p.taken new p.looks_of_sender (omega arith) p.sender_found;
+        receiver_found = p.receiver_found;
+      },
+      ap (λ (t : Tally). (tally t.role new t.looks, c)) is.1,
+    ))
+    (roles s.views s.words p id v at))
     holds
 
 -- the sender looks at the taken word
@@ -117,26 +117,26 @@ look_taken slots id v c sends s holds wide at low =
     ⊎_elim
     (λ (h : IsWhole s.words s.views). let e : Sender ≡ Both = sym sends ∙ not_whole s.words s.views h id v at in absurd cc)
     (λ (p : IsParted s.words s.views).
-        ⊎_elim
-        (λ (is : (id ≡ 0) × (tally Sender p.sent p.looks_of_sender ≡ v)).
-            let found : n ≡ p.taken = p.words_are.taken_is in (
-              tally Sender p.sent (p.looks_of_sender ++ n ∷ []),
-              keeps,
-              tt,
-              inr record {
-                sent = p.sent;
-                taken = p.taken;
-                looks_of_sender = p.looks_of_sender ++ n ∷ [];
-                looks_of_receiver = p.looks_of_receiver;
-                words_are = subst (HasWords (set s.words 16 n) p.sent) found (with_taken s.words p.sent p.taken n p.words_are);
-                seats = set_first s.views _ _ _ id p.seats is.0;
-                sender_found = found_snoc p.taken n p.looks_of_sender p.sender_found (omega arith);
-                receiver_found = p.receiver_found;
-              },
-              ap (λ (t : Tally). (tally t.role t.stored (t.looks ++ n ∷ []), c)) is.1,
-            ))
-        (λ (is : (id ≡ 1) × (tally Receiver p.taken p.looks_of_receiver ≡ v)). let e : Receiver ≡ Sender = ap (λ (t : Tally). t.role) is.1 ∙ sends in absurd cc)
-        (roles s.views s.words p id v at))
+    ⊎_elim
+    (λ (is : (id ≡ 0) × (tally Sender p.sent p.looks_of_sender ≡ v)).
+    let found : n ≡ p.taken = p.words_are.taken_is in (
+      tally Sender p.sent (p.looks_of_sender ++ n ∷ []),
+      keeps,
+      tt,
+      inr record {
+        sent = p.sent;
+        taken = p.taken;
+        looks_of_sender = p.looks_of_sender ++ n ∷ [];
+        looks_of_receiver = p.looks_of_receiver;
+        words_are = subst (HasWords (set s.words 16 n) p.sent) found (with_taken s.words p.sent p.taken n p.words_are);
+        seats = set_first s.views _ _ _ id p.seats is.0;
+        sender_found = found_snoc p.taken n p.looks_of_sender p.sender_found (omega arith);
+        receiver_found = p.receiver_found;
+      },
+      ap (λ (t : Tally). (tally t.role t.stored (t.looks ++ n ∷ []), c)) is.1,
+    ))
+    (λ (is : (id ≡ 1) × (tally Receiver p.taken p.looks_of_receiver ≡ v)). let e : Receiver ≡ Sender = ap (λ (t : Tally). t.role) is.1 ∙ sends in absurd cc)
+    (roles s.views s.words p id v at))
     holds
 
 -- the receiver looks at the sent word
@@ -147,26 +147,26 @@ look_sent slots id v c takes s holds wide at low =
     ⊎_elim
     (λ (h : IsWhole s.words s.views). let e : Receiver ≡ Both = sym takes ∙ not_whole s.words s.views h id v at in absurd cc)
     (λ (p : IsParted s.words s.views).
-        ⊎_elim
-        (λ (is : (id ≡ 0) × (tally Sender p.sent p.looks_of_sender ≡ v)). let e : Sender ≡ Receiver = ap (λ (t : Tally). t.role) is.1 ∙ takes in absurd cc)
-        (λ (is : (id ≡ 1) × (tally Receiver p.taken p.looks_of_receiver ≡ v)).
-            let found : n ≡ p.sent = p.words_are.sent_is in (
-              tally Receiver p.taken (p.looks_of_receiver ++ n ∷ []),
-              keeps,
-              tt,
-              inr record {
-                sent = p.sent;
-                taken = p.taken;
-                looks_of_sender = p.looks_of_sender;
-                looks_of_receiver = p.looks_of_receiver ++ n ∷ [];
-                words_are = subst (λ (x : ℕ). HasWords (set s.words 0 n) x p.taken) found (with_sent s.words p.sent p.taken n p.words_are);
-                seats = set_second s.views _ _ _ id p.seats is.0;
-                sender_found = p.sender_found;
-                receiver_found = found_snoc p.sent n p.looks_of_receiver p.receiver_found (omega arith);
-              },
-              ap (λ (t : Tally). (tally t.role t.stored (t.looks ++ n ∷ []), c)) is.1,
-            ))
-        (roles s.views s.words p id v at))
+    ⊎_elim
+    (λ (is : (id ≡ 0) × (tally Sender p.sent p.looks_of_sender ≡ v)). let e : Sender ≡ Receiver = ap (λ (t : Tally). t.role) is.1 ∙ takes in absurd cc)
+    (λ (is : (id ≡ 1) × (tally Receiver p.taken p.looks_of_receiver ≡ v)).
+    let found : n ≡ p.sent = p.words_are.sent_is in (
+      tally Receiver p.taken (p.looks_of_receiver ++ n ∷ []),
+      keeps,
+      tt,
+      inr record {
+        sent = p.sent;
+        taken = p.taken;
+        looks_of_sender = p.looks_of_sender;
+        looks_of_receiver = p.looks_of_receiver ++ n ∷ [];
+        words_are = subst (λ (x : ℕ). HasWords (set s.words 0 n) x p.taken) found (with_sent s.words p.sent p.taken n p.words_are);
+        seats = set_second s.views _ _ _ id p.seats is.0;
+        sender_found = p.sender_found;
+        receiver_found = found_snoc p.sent n p.looks_of_receiver p.receiver_found (omega arith);
+      },
+      ap (λ (t : Tally). (tally t.role t.stored (t.looks ++ n ∷ []), c)) is.1,
+    ))
+    (roles s.views s.words p id v at))
     holds
 
 -- the one seat is parted
@@ -176,20 +176,20 @@ parts id v both s holds at =
     let right : Tally = tally Receiver 0 [] in
     ⊎_elim
     (λ (h : IsWhole s.words s.views).
-        let is = one_there (tally Both 0 []) v id (ap (λ (l : List Tally). get_elem? l id) (sym h.seat) ∙ at) in
-        inr record {
-          sent = 0;
-          taken = 0;
-          looks_of_sender = [];
-          looks_of_receiver = [];
-          words_are = h.words_are;
-          seats = ap (λ (l : List Tally). set l id left ++ right ∷ []) h.seat ∙ ap (λ (i : ℕ). set (tally Both 0 [] ∷ []) i left ++ right ∷ []) is.0;
-          sender_found = tt;
-          receiver_found = tt;
-        })
+    let is = one_there (tally Both 0 []) v id (ap (λ (l : List Tally). get_elem? l id) (sym h.seat) ∙ at) in
+    inr record {
+      sent = 0;
+      taken = 0;
+      looks_of_sender = [];
+      looks_of_receiver = [];
+      words_are = h.words_are;
+      seats = ap (λ (l : List Tally). set l id left ++ right ∷ []) h.seat ∙ ap (λ (i : ℕ). set (tally Both 0 [] ∷ []) i left ++ right ∷ []) is.0;
+      sender_found = tt;
+      receiver_found = tt;
+    })
     (λ (p : IsParted s.words s.views).
-        ⊎_elim
-        (λ (is : (id ≡ 0) × (tally Sender p.sent p.looks_of_sender ≡ v)). let e : Sender ≡ Both = ap (λ (t : Tally). t.role) is.1 ∙ both in absurd cc)
-        (λ (is : (id ≡ 1) × (tally Receiver p.taken p.looks_of_receiver ≡ v)). let e : Receiver ≡ Both = ap (λ (t : Tally). t.role) is.1 ∙ both in absurd cc)
-        (roles s.views s.words p id v at))
+    ⊎_elim
+    (λ (is : (id ≡ 0) × (tally Sender p.sent p.looks_of_sender ≡ v)). let e : Sender ≡ Both = ap (λ (t : Tally). t.role) is.1 ∙ both in absurd cc)
+    (λ (is : (id ≡ 1) × (tally Receiver p.taken p.looks_of_receiver ≡ v)). let e : Receiver ≡ Both = ap (λ (t : Tally). t.role) is.1 ∙ both in absurd cc)
+    (roles s.views s.words p id v at))
     holds

@@ -50,24 +50,24 @@ module _ {T A : Type 0} (total : A → ℕ) (fits : A → ℕ → T → Type 0) 
       let right : Hand A = hand Receiver a n 0 in
       ⊎_elim
       (λ (h : IsBlank nothing items views).
-          let is = blank_there nothing items views h id v at in
-          inr record {
-            about = a;
-            capacity = n;
-            sent = 0;
-            taken = 0;
-            ends = ap (λ (l : List (Hand A)). set l id left ++ right ∷ []) h.pass ∙ ap (λ (i : ℕ). set (blank nothing ∷ []) i left ++ right ∷ []) is.0;
-            order = omega arith;
-            within = omega arith;
-            room = omega arith;
-            count = ap (λ (l : List T). 0 + length l) h.empty;
-            fit = subst (FitFrom (fits a) 0) (sym h.empty) tt;
-          })
+      let is = blank_there nothing items views h id v at in
+      inr record {
+        about = a;
+        capacity = n;
+        sent = 0;
+        taken = 0;
+        ends = ap (λ (l : List (Hand A)). set l id left ++ right ∷ []) h.pass ∙ ap (λ (i : ℕ). set (blank nothing ∷ []) i left ++ right ∷ []) is.0;
+        order = omega arith;
+        within = omega arith;
+        room = omega arith;
+        count = ap (λ (l : List T). 0 + length l) h.empty;
+        fit = subst (FitFrom (fits a) 0) (sym h.empty) tt;
+      })
       (λ (p : Way items views).
-          ⊎_elim
-          (λ (is : (id ≡ 0) × (hand Sender p.about p.capacity p.sent ≡ v)). let e : Sender ≡ Both = ap (λ (h : Hand A). h.role) is.1 ∙ both in absurd cc)
-          (λ (is : (id ≡ 1) × (hand Receiver p.about p.capacity p.taken ≡ v)). let e : Receiver ≡ Both = ap (λ (h : Hand A). h.role) is.1 ∙ both in absurd cc)
-          (ends items views p id v at))
+      ⊎_elim
+      (λ (is : (id ≡ 0) × (hand Sender p.about p.capacity p.sent ≡ v)). let e : Sender ≡ Both = ap (λ (h : Hand A). h.role) is.1 ∙ both in absurd cc)
+      (λ (is : (id ≡ 1) × (hand Receiver p.about p.capacity p.taken ≡ v)). let e : Receiver ≡ Both = ap (λ (h : Hand A). h.role) is.1 ∙ both in absurd cc)
+      (ends items views p id v at))
       holds
 
   -- the sender's next item joins at the back
@@ -79,31 +79,31 @@ module _ {T A : Type 0} (total : A → ℕ) (fits : A → ℕ → T → Type 0) 
       ⊎_elim
       (λ (h : IsBlank nothing items views). let e : Both ≡ Sender = ap (λ (h : Hand A). h.role) (blank_there nothing items views h id v at).1 in absurd cc)
       (λ (p : Way items views).
-          ⊎_elim
-          (λ (is : (id ≡ 0) × (hand Sender p.about p.capacity p.sent ≡ v)).
-              let same : p.about ≡ a = ap (λ (h : Hand A). h.about) is.1 in
-              let room : p.capacity ≡ n = ap (λ (h : Hand A). h.capacity) is.1 in
-              let sent : p.sent ≡ count = ap (λ (h : Hand A). h.count) is.1 in
-              let order : p.taken ≤ p.sent = p.order in
-              let under_way : p.taken + length items ≡ p.sent = p.count in
-              let place : count ≡ p.taken + length items = omega arith in (
-                w,
-                inr record {
-                  about = a;
-                  capacity = n;
-                  sent = count + 1;
-                  taken = p.taken;
-                  ends = set_first views _ _ w id p.ends is.0 ∙ (λ i. w ∷ hand Receiver (same i) (room i) p.taken ∷ []);
-                  order = omega arith;
-                  within = omega arith;
-                  room = omega arith;
-                  count = omega (arith, length-append items (x ∷ []));
-                  fit = fit_snoc (fits a) p.taken items x (subst (λ (b : A). FitFrom (fits b) p.taken items) same p.fit) (subst (λ (k : ℕ). fits a k x) place it);
-                },
-                refl,
-              ))
-          (λ (is : (id ≡ 1) × (hand Receiver p.about p.capacity p.taken ≡ v)). let e : Receiver ≡ Sender = ap (λ (h : Hand A). h.role) is.1 in absurd cc)
-          (ends items views p id v at))
+      ⊎_elim
+      (λ (is : (id ≡ 0) × (hand Sender p.about p.capacity p.sent ≡ v)).
+      let same : p.about ≡ a = ap (λ (h : Hand A). h.about) is.1 in
+      let room : p.capacity ≡ n = ap (λ (h : Hand A). h.capacity) is.1 in
+      let sent : p.sent ≡ count = ap (λ (h : Hand A). h.count) is.1 in
+      let order : p.taken ≤ p.sent = p.order in
+      let under_way : p.taken + length items ≡ p.sent = p.count in
+      let place : count ≡ p.taken + length items = omega arith in (
+        w,
+        inr record {
+          about = a;
+          capacity = n;
+          sent = count + 1;
+          taken = p.taken;
+          ends = set_first views _ _ w id p.ends is.0 ∙ (λ i. w ∷ hand Receiver (same i) (room i) p.taken ∷ []);
+          order = omega arith;
+          within = omega arith;
+          room = omega arith;
+          count = omega (arith, length-append items (x ∷ []));
+          fit = fit_snoc (fits a) p.taken items x (subst (λ (b : A). FitFrom (fits b) p.taken items) same p.fit) (subst (λ (k : ℕ). fits a k x) place it);
+        },
+        refl,
+      ))
+      (λ (is : (id ≡ 1) × (hand Receiver p.about p.capacity p.taken ≡ v)). let e : Receiver ≡ Sender = ap (λ (h : Hand A). h.role) is.1 in absurd cc)
+      (ends items views p id v at))
       holds
 
   -- the receiver's next item leaves at the front
@@ -115,31 +115,31 @@ module _ {T A : Type 0} (total : A → ℕ) (fits : A → ℕ → T → Type 0) 
       ⊎_elim
       (λ (h : IsBlank nothing (x ∷ items) views). let e : Both ≡ Receiver = ap (λ (h : Hand A). h.role) (blank_there nothing (x ∷ items) views h id v at).1 in absurd cc)
       (λ (p : Way (x ∷ items) views).
-          ⊎_elim
-          (λ (is : (id ≡ 0) × (hand Sender p.about p.capacity p.sent ≡ v)). let e : Sender ≡ Receiver = ap (λ (h : Hand A). h.role) is.1 in absurd cc)
-          (λ (is : (id ≡ 1) × (hand Receiver p.about p.capacity p.taken ≡ v)).
-              let same : p.about ≡ a = ap (λ (h : Hand A). h.about) is.1 in
-              let room : p.capacity ≡ n = ap (λ (h : Hand A). h.capacity) is.1 in
-              let taken : p.taken ≡ count = ap (λ (h : Hand A). h.count) is.1 in
-              let under_way : p.taken + length (x ∷ items) ≡ p.sent = p.count in
-              let most : p.sent ≤ total p.about = p.within in
-              let few : p.sent ≤ p.taken + p.capacity = p.room in
-              let whole : total p.about ≡ total a = ap total same in
-              let fit = subst (λ (b : A × ℕ). FitFrom (fits b.0) b.1 (x ∷ items)) (λ i. (same i, taken i)) p.fit in (
-                w,
-                inr record {
-                  about = a;
-                  capacity = n;
-                  sent = p.sent;
-                  taken = count + 1;
-                  ends = set_second views _ _ w id p.ends is.0 ∙ (λ i. hand Sender (same i) (room i) p.sent ∷ w ∷ []);
-                  order = omega arith;
-                  within = omega arith;
-                  room = omega arith;
-                  count = omega arith;
-                  fit = fit.1;
-                },
-                (refl, fit.0, omega arith),
-              ))
-          (ends (x ∷ items) views p id v at))
+      ⊎_elim
+      (λ (is : (id ≡ 0) × (hand Sender p.about p.capacity p.sent ≡ v)). let e : Sender ≡ Receiver = ap (λ (h : Hand A). h.role) is.1 in absurd cc)
+      (λ (is : (id ≡ 1) × (hand Receiver p.about p.capacity p.taken ≡ v)).
+      let same : p.about ≡ a = ap (λ (h : Hand A). h.about) is.1 in
+      let room : p.capacity ≡ n = ap (λ (h : Hand A). h.capacity) is.1 in
+      let taken : p.taken ≡ count = ap (λ (h : Hand A). h.count) is.1 in
+      let under_way : p.taken + length (x ∷ items) ≡ p.sent = p.count in
+      let most : p.sent ≤ total p.about = p.within in
+      let few : p.sent ≤ p.taken + p.capacity = p.room in
+      let whole : total p.about ≡ total a = ap total same in
+      let fit = subst (λ (b : A × ℕ). FitFrom (fits b.0) b.1 (x ∷ items)) (λ i. (same i, taken i)) p.fit in (
+        w,
+        inr record {
+          about = a;
+          capacity = n;
+          sent = p.sent;
+          taken = count + 1;
+          ends = set_second views _ _ w id p.ends is.0 ∙ (λ i. hand Sender (same i) (room i) p.sent ∷ w ∷ []);
+          order = omega arith;
+          within = omega arith;
+          room = omega arith;
+          count = omega arith;
+          fit = fit.1;
+        },
+        (refl, fit.0, omega arith),
+      ))
+      (ends (x ∷ items) views p id v at))
       holds

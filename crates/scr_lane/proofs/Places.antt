@@ -19,7 +19,7 @@ length_so_far plan core (suc n) =
     let beacon : List Message = beacon_before (suc n) in
     let frame : List Message = frame_to plan core (suc n) in
     let all : length (lane_so_far plan core (suc n)) ≡ length front + (length beacon + length frame) =
-            ap length (lane_so_far-suc plan core n) ∙ length-append front (beacon ++ frame) ∙ ap (λ (k : ℕ). length front + k) (length-append beacon frame) in
+    ap length (lane_so_far-suc plan core n) ∙ length-append front (beacon ++ frame) ∙ ap (λ (k : ℕ). length front + k) (length-append beacon frame) in
     let few_beacons : length beacon ≤ 1 = subst (λ (k : ℕ). k ≤ 1) (sym (length-beacon_before (suc n))) (at_most_one (has_beacon (suc n))) in
     let few_frames : length frame ≤ 1 = subst (λ (k : ℕ). k ≤ 1) (sym (length-frame_to plan core (suc n))) (at_most_one (delivers_to plan core (suc n))) in
     omega arith

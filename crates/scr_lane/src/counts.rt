@@ -105,7 +105,10 @@ impl SenderTally {
         ensures stored { self.new.seat.me.0 ≡ tally Sender sent self.old.seat.me.0.looks }
     {
         let _ = pass;
-        counts.table.shared.store::<Store>(&mut self.seat, SENT, sent);
+        counts
+            .table
+            .shared
+            .store::<Store>(&mut self.seat, SENT, sent);
     }
 
     /// Looks how many items were taken.
@@ -128,7 +131,10 @@ impl ReceiverTally {
         ensures stored { self.new.seat.me.0 ≡ tally Receiver taken self.old.seat.me.0.looks }
     {
         let _ = pass;
-        counts.table.shared.store::<Store>(&mut self.seat, TAKEN, taken);
+        counts
+            .table
+            .shared
+            .store::<Store>(&mut self.seat, TAKEN, taken);
     }
 
     /// Looks how many items were sent.

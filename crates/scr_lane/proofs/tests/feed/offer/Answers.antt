@@ -18,7 +18,7 @@ send-requires-in-Some-Some g c =
     let b = rw c.in-Some-Some.is-0 at c.requires.beacon in
     let o = rw c.in-Some-Some.is-1 at c.requires.own in
     let count : c.send.new.end.count ≡ length (lane_so_far c.args.plan.now c.args.core c.args.n) + cond (has_beacon (c.args.n + 1)) 1 0 =
-            rw b.0 (c.send.ensures.count ∙ ap (λ (k : ℕ). k + 1) c.requires.place) in
+    rw b.0 (c.send.ensures.count ∙ ap (λ (k : ℕ). k + 1) c.requires.place) in
     rw (c.send.ensures.lane.about ∙ c.requires.lane, count) (next_is_frame c.args.plan.now c.args.core c.args.n (c.args.n + 1) _ refl c.requires.within o.0 o.1)
 
 pub push-requires : goal.push-requires
@@ -26,7 +26,7 @@ push-requires g c =
     let b = rw c.in-None-Some.is-0 at c.requires.beacon in
     let o = rw c.in-None-Some.is-1 at c.requires.own in
     let count : c.args.end.now.count ≡ length (lane_so_far c.args.plan.now c.args.core c.args.n) + cond (has_beacon (c.args.n + 1)) 1 0 =
-            rw b (c.requires.place ∙ omega arith) in
+    rw b (c.requires.place ∙ omega arith) in
     rw (c.requires.lane, count) (next_is_frame c.args.plan.now c.args.core c.args.n (c.args.n + 1) _ refl c.requires.within o.0 o.1)
 
 pub returns-in-Some-Some-clause-ok : goal.returns-in-Some-Some-clause-ok
