@@ -1,8 +1,11 @@
-use crate::Lane;
-use scr_base::Row;
+ghost use Rattle.std.specs.Prelude.{◌≡◌, ◌≤◌, IfOk};
+
+use crate::{Lane, ReceiveEnd};
+use scr_base::{OutOfMemory, Row};
 use scr_plan::{Drops, RunPlan};
-use scr_wire::MessageKind;
+use scr_wire::{MessageKind, Packet};
 use std::alloc::Global;
+use std::sync::Wait;
 use std::test::Fail;
 
 mod crossing;
@@ -23,6 +26,20 @@ const ROW: Row = Row {
     w6: 0,
 };
 
+// A plan of such rows, whose frames carry their own packets alone.
+fn plan_of(alloc: Global, frames: u16, cores: u32, drops: &[u8]) -> Result<RunPlan, OutOfMemory>
+    requires some { 1 ≤ cores }
+    requires few { cores ≤ 16 }
+    ensures cores { IfOk result (λ plan. plan.cores ≡ cores) }
+    ensures alone { IfOk result (λ plan. plan.history ≡ 0) }
+{
+    let rows = vec![in alloc; ROW; usize::from(frames)]?;
+    let Ok(drops) = Drops::read(alloc, drops) else {
+        return Err(OutOfMemory);
+    };
+    Ok(RunPlan::make(rows, cores, 0, drops))
+}
+
 // The message of frame n, where a frame carries its own packet alone.
 fn frame_message(n: u8) -> [u8; 66] {
     [
@@ -32,31 +49,62 @@ fn frame_message(n: u8) -> [u8; 66] {
     ]
 }
 
+fn is_frame(packet: Option<Packet>, n: u8) -> bool {
+    match packet {
+        Some(packet) => packet.bytes() == frame_message(n).as_slice(),
+        None => false,
+    }
+}
+
+// What an end does next: the next frame is sent, or comes back, a frame is taken, or none.
+#[derive(Clone, Copy, Debug)]
+enum Step {
+    Sent,
+    Refused(u8),
+    Taken(u8),
+    Empty,
+}
+
+fn goes<R: Wait>(
+    rt: &R,
+    feed: &mut Feed<'_>,
+    receive: &mut ReceiveEnd,
+    step: Step,
+) -> Result<bool, OutOfMemory> {
+    match step {
+        Step::Sent => Ok(feed.next(rt)?.is_none()),
+        Step::Refused(n) => Ok(is_frame(feed.next(rt)?, n)),
+        Step::Taken(n) => Ok(is_frame(receive.pop(rt), n)),
+        Step::Empty => Ok(receive.pop(rt).is_none()),
+    }
+}
+
 #[test]
 fn a_full_lane_and_an_empty_one(rt: HostRuntime) -> Result<(), Fail> {
-    let alloc = rt.alloc();
-    let rows = vec![in alloc; ROW; 4]?;
-    let plan = RunPlan::make(rows, 1, 0, Drops::none(alloc));
-    let (end, mut receive) = Lane::make(alloc, &plan, 0, 2)?;
-    let mut feed = Feed::new(alloc, &plan, 0, end);
-    assert!(rt; feed.next(&rt)?.is_none());
-    assert!(rt; feed.next(&rt)?.is_none());
-    let refused = feed.next(&rt)?.ok_or("the lane is full")?;
-    assert_eq!(rt; refused.bytes(), frame_message(3).as_slice());
-    let first = receive.pop(&rt).ok_or("frame 1")?;
-    assert_eq!(rt; first.bytes(), frame_message(1).as_slice());
-    let second = receive.pop(&rt).ok_or("frame 2")?;
-    assert_eq!(rt; second.bytes(), frame_message(2).as_slice());
-    assert!(rt; receive.pop(&rt).is_none());
-    assert!(rt; feed.next(&rt)?.is_none());
-    assert!(rt; feed.next(&rt)?.is_none());
-    let third = receive.pop(&rt).ok_or("frame 3")?;
-    assert_eq!(rt; third.bytes(), frame_message(3).as_slice());
+    let steps = [
+        Step::Sent,
+        Step::Sent,
+        Step::Refused(3),
+        Step::Taken(1),
+        Step::Taken(2),
+        Step::Empty,
+        Step::Sent,
+        Step::Sent,
+        Step::Taken(3),
+        Step::Taken(4),
+    ];
+    let plan = plan_of(rt.alloc(), 4, 1, b"")?;
+    let (end, mut receive) = Lane::make(rt.alloc(), &plan, 0, 2)?;
+    let mut feed = Feed::new(rt.alloc(), &plan, 0, end);
+    for step in steps {
+        let goes = goes(&rt, &mut feed, &mut receive, step)?;
+        assert!(rt; goes, "{step:?}");
+    }
     Ok(())
 }
 
 // What the lane of core 0 is where the even frames of 600 are dropped.
-fn odd_frames_with_beacons(alloc: Global) -> Result<Vec<Taken>, Fail> {
+fn odd_frames_with_beacons(alloc: Global) -> Result<Vec<Taken>, OutOfMemory> {
     let mut lane = Vec::new(alloc);
     for n in 1..=600u32 {
         if n == 257 || n == 513 {
@@ -72,14 +120,11 @@ fn odd_frames_with_beacons(alloc: Global) -> Result<Vec<Taken>, Fail> {
 
 #[test]
 fn a_whole_lane_between_two_threads(rt: HostRuntime) -> Result<(), Fail> {
-    let alloc = rt.alloc();
-    let rows = vec![in alloc; ROW; 600]?;
-    let drops = Drops::read(alloc, b"2-600/2").ok().ok_or("a drop list")?;
-    let plan = RunPlan::make(rows, 2, 0, drops);
-    let (end, receive) = Lane::make(alloc, &plan, 0, 2)?;
-    let feed = Feed::new(alloc, &plan, 0, end);
-    let taken = through_threads(&rt, alloc, feed, receive).ok_or("the whole lane")?;
-    let lane = odd_frames_with_beacons(alloc)?;
+    let plan = plan_of(rt.alloc(), 600, 2, b"2-600/2")?;
+    let (end, receive) = Lane::make(rt.alloc(), &plan, 0, 2)?;
+    let feed = Feed::new(rt.alloc(), &plan, 0, end);
+    let taken = through_threads(&rt, rt.alloc(), feed, receive).ok_or("the whole lane")?;
+    let lane = odd_frames_with_beacons(rt.alloc())?;
     assert_eq!(rt; lane.len(), 303);
     assert_eq!(rt; taken.as_slice(), lane.as_slice());
     Ok(())
