@@ -1,10 +1,8 @@
 -- Each step on the two words keeps their rule.
-use Rattle.std.proofs.Common.{◌≡◌, ℕ, zero, suc, ◌≤◌, ◌⊎◌, List, [], ◌∷◌, ◌++◌, length, get_or, set, sym, refl, ap, ◌∙◌, subst, inl, inr, ⊎_elim, le_refl, le_trans, arith, length-set, get_or-set_same, get_or-set_other}
+use Rattle.std.proofs.Common.{◌≡◌, ℕ, ◌≤◌, ◌⊎◌, List, [], ◌∷◌, ◌++◌, get_or, set, sym, ap, ◌∙◌, subst, inr, ⊎_elim, le_trans, arith, length-set, get_or-set_same, get_or-set_other}
 use mathlib.Core.Option.{some}
 use lib.ListN.{get_elem?}
-use Rattle.std.specs.List.{AllByRecursion}
-use Rattle.atomic_table.specs.Table.{State, Me, step, keeps, Allows, Splits}
-use Rattle.scr_lane.specs.declared.view.Role.{Role}
+use Rattle.atomic_table.specs.Table.{keeps, Allows, Splits}
 use Rattle.scr_lane.specs.declared.view.Role.TheVariants.{Both, Sender, Receiver}
 use Rattle.scr_lane.specs.declared.view.Tally.{Tally}
 use Rattle.scr_lane.specs.Views.{tally}

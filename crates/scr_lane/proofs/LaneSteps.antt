@@ -3,7 +3,6 @@ use Rattle.std.proofs.Common.{◌≡◌, ℕ, ◌+◌, ◌<◌, ◌≤◌, ◌�
 use mathlib.Core.Option.{some}
 use lib.ListN.{get_elem?}
 use Rattle.crossbeam_queue.specs.Fifo.{Pushes, Pops, Forks}
-use Rattle.scr_lane.specs.declared.view.Role.{Role}
 use Rattle.scr_lane.specs.declared.view.Role.TheVariants.{Both, Sender, Receiver}
 use Rattle.scr_lane.specs.declared.view.Hand.{Hand}
 use Rattle.scr_lane.specs.Views.{hand, blank}

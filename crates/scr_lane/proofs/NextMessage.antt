@@ -1,14 +1,14 @@
 -- Which packet is the next one of a lane, number by number: before number n + 1, what the numbers up to n add was sent.
 -- So whoever sends for each number its beacon, where there is one, and then its frame, where it goes to this core, and
 -- last the end, always sends the lane's next message.
-use Rattle.std.proofs.Common.{◌≡◌, ℕ, zero, suc, ◌+◌, ◌-◌, ◌<◌, ◌≤◌, Bool, true, false, cond, List, [], ◌∷◌, ◌++◌, length, sym, refl, ap, ◌∙◌, subst, append_assoc, arith}
+use Rattle.std.proofs.Common.{◌≡◌, ℕ, suc, ◌+◌, ◌-◌, ◌<◌, Bool, true, cond, List, [], ◌∷◌, ◌++◌, length, sym, refl, ap, ◌∙◌, subst, append_assoc, arith}
 use Rattle.std.specs.Prelude.{Some}
 use Rattle.std.specs.List.{slice_get}
 use Rattle.std.proofs.lemmas.List.{length-append}
 use Rattle.scr_plan.specs.Plan.{Plan, frame_count, delivers_to}
 use Rattle.scr_wire.specs.declared.message.Message.{Message}
 use Rattle.scr_wire.specs.declared.message.Message.TheVariants.{Beacon, End}
-use Rattle.scr_wire.specs.Lane.{frame, has_beacon, beacon_before, frame_to, added, lane_so_far, lane}
+use Rattle.scr_wire.specs.Lane.{frame, has_beacon, beacon_before, frame_to, lane_so_far, lane}
 use Rattle.scr_wire.specs.Spelling.{Spells}
 use Rattle.scr_wire.proofs.LaneGrows.{lane_so_far-zero, lane_so_far-suc, lane_front, length-beacon_before, length-frame_to}
 use Rattle.scr_lane.specs.Messages.{route, SpellsMessage}
