@@ -35,7 +35,8 @@ fn unbuffered<S: AsFd>(stream: S, fault: Fault) -> Result<File, Fault> {
 }
 
 fn run_words() -> Result<(), Fault> {
-    let words: Vec<String> = std::env::args_os().skip(1).map(|it| it.into_string()).collect::<Result<_, _>>().map_err(|_| Fault::Words)?;
+    let words = std::env::args_os().skip(1).map(|it| it.into_string().map_err(|_| Fault::Words));
+    let words = words.collect::<Result<Vec<String>, Fault>>()?;
     let (command, operands) = words.split_first().ok_or(Fault::Words)?;
     let input = || unbuffered(io::stdin(), Fault::Read);
     let out = || unbuffered(io::stdout(), Fault::Write);

@@ -113,6 +113,7 @@ impl<R: Read> Capture<R> {
     }
 
     /// The next frame and its time in microseconds, or none where the capture ends.
+    #[inline(always)]
     pub fn next(&mut self) -> Result<Option<(&[u8], u64)>, Fault> {
         let ready = self.input.ready(RECORD_HEADER)?;
         if ready == 0 {

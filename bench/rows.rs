@@ -101,4 +101,3 @@ impl Hash for Connection {
         state.write_u64(u64::from(self.low.port) << 16 | u64::from(self.high.port));
     }
 }
-

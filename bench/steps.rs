@@ -1,4 +1,5 @@
-//! The five programs' steps.
+//! The five programs' steps. They are inlined, with the table's update, into the loop that takes them: once a packet a call
+//! would show.
 
 use crate::rows::{Address, Connection, Endpoint, FiveTuple, Row};
 use crate::table::FlowTable;
@@ -33,6 +34,7 @@ impl Ddos {
 impl Program for Ddos {
     const NAMES: &'static [&'static str] = &["PASS", "DROP", "OTHER"];
 
+    #[inline(always)]
     fn step(&mut self, row: &Row) -> u8 {
         if !row.is_packet() {
             return OTHER;
@@ -61,6 +63,7 @@ impl Heavy {
 impl Program for Heavy {
     const NAMES: &'static [&'static str] = &["PASS", "HEAVY", "OTHER"];
 
+    #[inline(always)]
     fn step(&mut self, row: &Row) -> u8 {
         if !row.is_packet() {
             return OTHER;
@@ -98,6 +101,7 @@ impl Bucket {
 impl Program for Bucket {
     const NAMES: &'static [&'static str] = &["PASS", "DROP", "OTHER"];
 
+    #[inline(always)]
     fn step(&mut self, row: &Row) -> u8 {
         if !row.is_packet() {
             return OTHER;
@@ -148,6 +152,7 @@ impl Knock {
 impl Program for Knock {
     const NAMES: &'static [&'static str] = &["PASS", "DROP", "OTHER"];
 
+    #[inline(always)]
     fn step(&mut self, row: &Row) -> u8 {
         if !matches!(row.kind(), 2 | 3) {
             return OTHER;
@@ -268,6 +273,7 @@ impl Program for Conn {
         "SYN_SENT", "SYN_RECV", "ESTABLISHED", "FIN_WAIT", "LAST_ACK", "TIME_WAIT", "CLOSED", "INVALID", "OTHER",
     ];
 
+    #[inline(always)]
     fn step(&mut self, row: &Row) -> u8 {
         if row.kind() != 2 {
             return Conn::OTHER;

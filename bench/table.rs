@@ -74,6 +74,7 @@ impl<K: Copy + Default + Eq + Hash, V: Copy + Default> FlowTable<K, V> {
 
     /// Gives a key the entry that comes after the one that it has, if there is one, and makes it the newest. Leaves the
     /// table alone where none comes.
+    #[inline(always)]
     pub fn update(&mut self, key: K, next: impl FnOnce(Option<V>) -> Option<V>) -> Option<V> {
         let known = self.places.get(&key).copied();
         let entry = next(known.map(|place| self.list[place].entry))?;
