@@ -1,0 +1,6 @@
+pub mod LastLook
+pub mod TwoViews
+pub mod CountSteps
+pub mod LaneSteps
+pub mod Places
+pub mod NextMessage
