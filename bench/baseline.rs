@@ -5,6 +5,7 @@
 //! The flow table is a plain list, the most recently used source first. Verdicts are kept until the capture is read to
 //! its end, so that a faulty capture leaves the output alone. Reads and writes are of 64 KiB.
 
+mod shared;
 mod steps;
 
 use std::fs::File;
@@ -338,6 +339,11 @@ fn run_words() -> Result<(), Fault> {
     let words: Vec<String> = std::env::args().skip(1).collect();
     if words.first().is_some_and(|it| it == "step") {
         let sum = steps::checksum_of(&words[1..]).ok_or(Fault::Words)?;
+        println!("{sum}");
+        return Ok(());
+    }
+    if words.first().is_some_and(|it| it == "lane" || it == "log") {
+        let sum = shared::checksum_of(&words).ok_or(Fault::Words)?;
         println!("{sum}");
         return Ok(());
     }
