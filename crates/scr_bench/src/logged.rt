@@ -36,7 +36,12 @@ pub fn rows_found<R: Threads + Wait + Sync>(
     }
 }
 
-fn by_four<R: Threads + Wait + Sync>(rt: &R, logs: &Logs, plan: &RunPlan, mut first: FreePass) -> u64
+fn by_four<R: Threads + Wait + Sync>(
+    rt: &R,
+    logs: &Logs,
+    plan: &RunPlan,
+    mut first: FreePass,
+) -> u64
     requires of_these { first.logs ≡ logs.now }
     requires plan { logs.now.plan ≡ plan.now }
     requires stock { 4 ≤ first.stock }
@@ -47,8 +52,18 @@ fn by_four<R: Threads + Wait + Sync>(rt: &R, logs: &Logs, plan: &RunPlan, mut fi
     let fourth = first.split(logs);
     let (one, other) = thread::join(
         rt,
-        || by_two(rt, logs, plan, first, second),
-        || by_two(rt, logs, plan, third, fourth),
+        ||
+            requires of_these { (first.logs ≡ logs.now) × (second.logs ≡ logs.now) }
+            requires plan { logs.now.plan ≡ plan.now }
+            requires stock { (1 ≤ first.stock) × (1 ≤ second.stock) }
+            requires few { length plan.now.rows ≤ 1000000 }
+        { by_two(rt, logs, plan, first, second) },
+        ||
+            requires of_these { (third.logs ≡ logs.now) × (fourth.logs ≡ logs.now) }
+            requires plan { logs.now.plan ≡ plan.now }
+            requires stock { (1 ≤ third.stock) × (1 ≤ fourth.stock) }
+            requires few { length plan.now.rows ≤ 1000000 }
+        { by_two(rt, logs, plan, third, fourth) },
     );
     one.wrapping_add(other)
 }
@@ -122,13 +137,7 @@ fn publish(logs: &Logs, pass: &mut CorePass, p: u32, entry: Option<Row>) -> bool
 }
 
 // The same, when the slot is free.
-fn publish_when_free<R: Wait>(
-    rt: &R,
-    logs: &Logs,
-    pass: &mut CorePass,
-    p: u32,
-    entry: Option<Row>,
-)
+fn publish_when_free<R: Wait>(rt: &R, logs: &Logs, pass: &mut CorePass, p: u32, entry: Option<Row>)
     requires of_these { pass.old.logs ≡ logs.now }
     requires next { p ≡ pass.old.published + 1 }
     requires idle { pass.old.published ≡ pass.old.finished }
@@ -182,7 +191,9 @@ fn found<R: Wait>(rt: &R, logs: &Logs, pass: &mut CorePass, p: u32) -> u64
 {
     let own = pass.core();
     for core in 0..logs.cores() {
-        if core != own && let Some(row) = entry_of(rt, logs, pass, core, p) {
+        if core != own
+            && let Some(row) = entry_of(rt, logs, pass, core, p)
+        {
             return row.w5.wrapping_mul(31).wrapping_add(row.w1);
         }
     }

@@ -52,7 +52,10 @@ fn messages_through_a_lane(rt: HostRuntime) -> Result<(), OutOfMemory> {
     assert_eq!(rt; lane_received(&rt, rt.alloc(), two)?, 4_260_607_558_657);
     // More than a lane holds, with beacons between.
     let many = Frames { count: 3_000 };
-    assert_eq!(rt; lane_received(&rt, rt.alloc(), many)?, 17_442_562_978_049_441_244);
+    assert_eq!(rt;
+        lane_received(&rt, rt.alloc(), many)?,
+        17_442_562_978_049_441_244
+    );
     Ok(())
 }
 
