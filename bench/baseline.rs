@@ -1,6 +1,6 @@
 //! The same program in plain Rust, std only and one thread, to measure against: `run program=ddos threshold=N` reads a
-//! capture on standard input, and writes a verdict for each frame and the counts; `step PROGRAM FLOWS PACKETS` is the work
-//! of scr_bench. Nothing of it is proved.
+//! capture on standard input, and writes a verdict for each frame and the counts; `step PROGRAM FLOWS PACKETS`,
+//! `lane KIND FRAMES` and `log CORES ROWS` are the work of scr_bench. Nothing of it is proved.
 //!
 //! The flow table is a plain list, the most recently used source first. Verdicts are kept until the capture is read to
 //! its end, so that a faulty capture leaves the output alone. Reads and writes are of 64 KiB.
