@@ -33,11 +33,35 @@ pub enum Stepped {
     Conn,
 }
 
+/// The frames whose messages go through a lane.
+#[derive(Clone, Copy, Debug, PartialEq, Eq)]
+pub struct Frames {
+    pub count: u32,
+    ghost few: { count ≤ 1000000 },
+}
+
+/// How many cores share logs.
+#[derive(Clone, Copy, Debug, PartialEq, Eq)]
+pub enum Cores {
+    Two,
+    Four,
+}
+
+/// The cores that share logs, and the rows of their packets.
+#[derive(Clone, Copy, Debug, PartialEq, Eq)]
+pub struct Shared {
+    pub cores: Cores,
+    pub rows: u32,
+    ghost few: { rows ≤ 1000000 },
+}
+
 /// What is measured.
 #[derive(Clone, Copy, Debug, PartialEq, Eq)]
 pub enum Measure {
     Sequencer(Length),
     Step(Stepped, Load),
+    Lane(Frames),
+    Log(Shared),
 }
 
 /// What the arguments ask for, where they are such words and no others.
@@ -52,6 +76,11 @@ pub fn asked_for<R: Env + AllocGlobal>(rt: &R) -> Option<Measure> {
             let program = program_named(words.next()?.as_str())?;
             let (flows, packets) = (number(words.next())?, number(words.next())?);
             Measure::Step(program, packets_of(flows, packets)?)
+        }
+        "lane" => Measure::Lane(frames_of(number(words.next())?)?),
+        "log" => {
+            let cores = cores_of(words.next()?.as_str())?;
+            Measure::Log(shared_by(cores, number(words.next())?)?)
         }
         _ => return None,
     };
@@ -73,6 +102,30 @@ fn rows_of(history: u32, frames: u32) -> Option<Length> {
 fn packets_of(flows: u32, packets: u32) -> Option<Load> {
     if 1 <= flows && flows <= 1_000_000 {
         Some(Load { flows, packets })
+    } else {
+        None
+    }
+}
+
+fn frames_of(count: u32) -> Option<Frames> {
+    if count <= 1_000_000 {
+        Some(Frames { count })
+    } else {
+        None
+    }
+}
+
+fn cores_of(word: &str) -> Option<Cores> {
+    match word {
+        "2" => Some(Cores::Two),
+        "4" => Some(Cores::Four),
+        _ => None,
+    }
+}
+
+fn shared_by(cores: Cores, rows: u32) -> Option<Shared> {
+    if rows <= 1_000_000 {
+        Some(Shared { cores, rows })
     } else {
         None
     }
