@@ -1,15 +1,8 @@
-<<<<<<< HEAD
 //! The same work as scr's in plain Rust, std only and one thread, to measure against. Nothing of it is proved.
-=======
-//! The same program in plain Rust, std only and one thread, to measure against: `run program=ddos threshold=N` reads a
-//! capture on standard input, and writes a verdict for each frame and the counts; `step PROGRAM FLOWS PACKETS`,
-//! `lane KIND FRAMES` and `log CORES ROWS` are the work of scr_bench. Nothing of it is proved.
->>>>>>> a00b0a7feec82c340603b891c3d49df7b5b79b1e
 //!
 //! `run program=ddos threshold=N` and `plain program=NAME` read a capture on standard input, and write the report; `step
-//! PROGRAM FLOWS PACKETS` is the work of scr_bench.
+//! PROGRAM FLOWS PACKETS`, `lane KIND FRAMES` and `log CORES ROWS` are the work of scr_bench.
 
-<<<<<<< HEAD
 mod captures;
 mod faults;
 mod frames;
@@ -17,9 +10,7 @@ mod listed;
 mod plain;
 mod report;
 mod rows;
-=======
 mod shared;
->>>>>>> a00b0a7feec82c340603b891c3d49df7b5b79b1e
 mod steps;
 mod table;
 mod traffic;
@@ -57,18 +48,12 @@ fn run_words() -> Result<(), Fault> {
             println!("{}", traffic::checksum_of(operands).ok_or(Fault::Words)?);
             Ok(())
         }
+        "lane" | "log" => {
+            println!("{}", shared::checksum_of(&words).ok_or(Fault::Words)?);
+            Ok(())
+        }
         _ => Err(Fault::Words),
     }
-<<<<<<< HEAD
-=======
-    if words.first().is_some_and(|it| it == "lane" || it == "log") {
-        let sum = shared::checksum_of(&words).ok_or(Fault::Words)?;
-        println!("{sum}");
-        return Ok(());
-    }
-    let threshold = read_words().ok_or(Fault::Words)?;
-    run(threshold, unbuffered(io::stdin(), Fault::Read)?, unbuffered(io::stdout(), Fault::Write)?)
->>>>>>> a00b0a7feec82c340603b891c3d49df7b5b79b1e
 }
 
 fn main() -> ExitCode {
