@@ -47,6 +47,7 @@ impl Program for Bucket {
 
     ghost is_named = { λ settings. verdict_after-named (step settings) 3 (step-named settings) };
 
+    #[inline(always)]
     fn extract(settings: &BucketSettings, parsed: &Parsed, time: u64) -> Row {
         let fields = fields_of(parsed, time);
         if is_packet(fields.kind) {
@@ -73,6 +74,7 @@ impl Program for Bucket {
         }
     }
 
+    #[inline(always)]
     fn step(
         settings: &BucketSettings,
         state: &mut Self::State,
@@ -141,6 +143,7 @@ fn taken(tokens: Tokens) -> (Tokens, Verdict)
 }
 
 // Takes a token from the bucket of the row's flow, and tells whether there was one.
+#[inline(always)]
 #[tactic(auto, unfolding(crate::specs::Step::step))]
 fn take_token(
     settings: &BucketSettings,
@@ -156,8 +159,9 @@ fn take_token(
     if !is_packet(fields.kind) {
         return Ok(OTHER);
     }
-    let flow = FiveTuple::of(&fields);
-    let (tokens, verdict) = taken(filled(settings, flows.look(&flow), fields.time));
-    flows.set(flow, tokens)?;
+    let time = fields.time;
+    let verdict = flows.update(&FiveTuple::of(&fields), |known| {
+        taken(filled(settings, known, time))
+    })?;
     Ok(verdict)
 }

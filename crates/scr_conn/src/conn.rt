@@ -43,6 +43,7 @@ impl Program for Conn {
 
     ghost is_named = { λ settings. verdict_after-named (step settings) 9 (step-named settings) };
 
+    #[inline(always)]
     fn extract(_settings: &ConnSettings, parsed: &Parsed, time: u64) -> Row {
         let fields = fields_of(parsed, time);
         if looks_at(fields.kind) {
@@ -133,7 +134,7 @@ fn track(
     let Some(entry) = next_entry(settings.idle, known, &fields) else {
         return Ok(INVALID);
     };
-    flows.set(connection, entry)?;
+    flows.update(&connection, |_| (entry, ()))?;
     Ok(verdict_of(entry.state))
 }
 

@@ -1,4 +1,4 @@
-ghost use Rattle.std.specs.Prelude.{◌≡◌, ◌++◌, ◌+◌, ◌*◌, ◌^◌};
+ghost use Rattle.std.specs.Prelude.{◌≡◌, ◌++◌, ◌+◌, ◌*◌, ◌%◌, ◌^◌};
 ghost use Rattle.std.proofs.Common.{rules};
 ghost use Rattle.std.specs.Cmp.Rules.{hashing};
 ghost use Rattle.std.specs.Hash as fed;
@@ -29,16 +29,21 @@ pub struct Connection {
     pub high: Endpoint,
 }
 
-// The two numbers and one word of the ports, which is three writes.
+// Hashing is most of a look-up, so it is two writes: the low address, and the high one with the ports in its upper half.
+// Over IPv6 that adds the two, and few keys hash alike.
 impl Hash for Connection {
-    ghost hash_input = { λ key. fed.u128 key.low.address.value ++ fed.u128 key.high.address.value ++ fed.u64 (key.low.port * 2 ^ 16 + key.high.port) };
+    ghost hash_input = { λ key. fed.u128 key.low.address.value ++ fed.u128 ((key.high.address.value + (key.low.port * 2 ^ 16 + key.high.port) * 2 ^ 64) % 2 ^ 128) };
 
     ghost respects_eq = { Prim.search (hashing, rules) };
 
     fn hash<H: Hasher>(&self, state: &mut H) {
+        let ports = u128::from(ports_joined(self.low.port, self.high.port));
         self.low.address.hash(state);
-        self.high.address.hash(state);
-        ports_joined(self.low.port, self.high.port).hash(state);
+        self.high
+            .address
+            .value
+            .wrapping_add(ports * (1 << 64))
+            .hash(state);
     }
 }
 
@@ -53,6 +58,7 @@ impl FlowKey for Connection {
 }
 
 /// The side that sent a packet with these fields: the low one where both endpoints are the same.
+#[inline(always)]
 pub(crate) fn sender_of(fields: &Fields) -> Side
     ensures { result ≡ sender_of fields.now }
 {
@@ -64,6 +70,7 @@ pub(crate) fn sender_of(fields: &Fields) -> Side
 }
 
 /// The connection that a packet with these fields belongs to.
+#[inline(always)]
 pub(crate) fn connection_of(fields: &Fields) -> Connection
     ensures { result ≡ connection_of fields.now }
 {

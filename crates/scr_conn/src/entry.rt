@@ -29,6 +29,7 @@ pub struct Entry {
 }
 
 /// The entry after a packet with these fields, where the packet is valid.
+#[inline(always)]
 pub(crate) fn next_entry(idle: u64, known: Option<Entry>, fields: &Fields) -> Option<Entry>
     ensures { result ≡ next_entry idle known fields.now }
 {

@@ -43,6 +43,7 @@ impl Program for Ddos {
 
     ghost is_named = { λ settings. verdict_after-named (step settings) 3 (step-named settings) };
 
+    #[inline(always)]
     fn extract(settings: &DdosSettings, parsed: &Parsed, time: u64) -> Row {
         let fields = fields_of(parsed, time);
         if is_packet(fields.kind) {
@@ -69,6 +70,7 @@ impl Program for Ddos {
         }
     }
 
+    #[inline(always)]
     fn step(
         settings: &DdosSettings,
         state: &mut Self::State,
@@ -111,6 +113,7 @@ fn kept(fields: &Fields) -> Fields
 }
 
 // Counts one more packet of the row's source, and tells whether it is past the threshold.
+#[inline(always)]
 #[tactic(auto, unfolding(crate::specs::Step::step))]
 fn count(
     settings: &DdosSettings,
@@ -126,8 +129,11 @@ fn count(
     if !is_packet(fields.kind) {
         return Ok(OTHER);
     }
-    let count = flows.look(&fields.source).unwrap_or(0).saturating_add(1);
-    flows.set(fields.source, count)?;
+    let source = fields.source;
+    let count = flows.update(&source, |known| {
+        let count = known.unwrap_or(0).saturating_add(1);
+        (count, count)
+    })?;
     Ok(if settings.threshold < count {
         DROP
     } else {

@@ -22,6 +22,7 @@ pub(crate) struct Packet {
 
 impl Packet {
     /// The packet, and what its transport header says.
+    #[inline(always)]
     pub(crate) fn with_transport(
         &self,
         kind: Kind,
@@ -55,6 +56,7 @@ fn told_or_captured(field: u16, told: u32, bytes: &[u8]) -> u32
 
 /// The IPv4 packet that the bytes begin with, if its header is whole and the length covers it.
 #[tactic(auto, unfolding(crate::specs::Fields::ipv4))]
+#[inline(always)]
 pub(crate) fn ipv4(bytes: &[u8]) -> Option<Packet>
     requires { length bytes.now ≤ 262144 }
     ensures { result ≡ ipv4 bytes.now }
@@ -81,6 +83,7 @@ pub(crate) fn ipv4(bytes: &[u8]) -> Option<Packet>
 
 /// The IPv6 packet that the bytes begin with, if its header is whole.
 #[tactic(auto, unfolding(crate::specs::Fields::ipv6))]
+#[inline(never)]
 pub(crate) fn ipv6(bytes: &[u8]) -> Option<Packet>
     requires { length bytes.now ≤ 262144 }
     ensures { result ≡ ipv6 bytes.now }

@@ -30,6 +30,7 @@ const OTHER: Parsed = Parsed {
 
 /// The fields of a frame of at most 262,144 bytes.
 #[tactic(auto, unfolding(crate::specs::Fields::fields))]
+#[inline(always)]
 pub fn parse(bytes: &[u8]) -> Parsed
     requires { length bytes.now ≤ 262144 }
     ensures { result ≡ fields bytes.now }
@@ -50,6 +51,7 @@ pub fn parse(bytes: &[u8]) -> Parsed
 
 /// The type of a frame, and the bytes behind it; none where the frame ends before that.
 #[tactic(auto, unfolding(crate::specs::Fields::ethernet))]
+#[inline(always)]
 fn ethernet(frame: &[u8]) -> Option<(u16, &[u8])>
     ensures parts { option_map (λ x. (x.0, x.1.now)) result ≡ ethernet frame.now }
     ensures shorter { IfSome result (λ x. length x.1.now ≤ length frame.now) }
@@ -69,6 +71,7 @@ fn ethernet(frame: &[u8]) -> Option<(u16, &[u8])>
 
 /// The packet, and what its transport header says, if that is looked at and whole.
 #[tactic(auto, unfolding(crate::specs::Fields::transport))]
+#[inline(always)]
 fn transport(packet: &Packet, bytes: &[u8]) -> Parsed
     ensures { result ≡ transport packet.now bytes.now }
 {

@@ -43,6 +43,7 @@ impl Program for Heavy {
 
     ghost is_named = { λ settings. verdict_after-named (step settings) 3 (step-named settings) };
 
+    #[inline(always)]
     fn extract(settings: &HeavySettings, parsed: &Parsed, time: u64) -> Row {
         let fields = fields_of(parsed, time);
         if is_packet(fields.kind) {
@@ -69,6 +70,7 @@ impl Program for Heavy {
         }
     }
 
+    #[inline(always)]
     fn step(
         settings: &HeavySettings,
         state: &mut Self::State,
@@ -107,6 +109,7 @@ fn kept(fields: &Fields) -> Fields
 }
 
 // Counts the bytes of one more packet of the row's flow, and tells whether it has come to many.
+#[inline(always)]
 #[tactic(auto, unfolding(crate::specs::Step::step))]
 fn count(
     settings: &HeavySettings,
@@ -122,8 +125,10 @@ fn count(
     if !is_packet(fields.kind) {
         return Ok(OTHER);
     }
-    let flow = FiveTuple::of(&fields);
-    let bytes = flows.look(&flow).unwrap_or(0).saturating_add(fields.length);
-    flows.set(flow, bytes)?;
+    let length = fields.length;
+    let bytes = flows.update(&FiveTuple::of(&fields), |known| {
+        let bytes = known.unwrap_or(0).saturating_add(length);
+        (bytes, bytes)
+    })?;
     Ok(if settings.bytes <= bytes { HEAVY } else { PASS })
 }

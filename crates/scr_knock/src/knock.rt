@@ -46,6 +46,7 @@ impl Program for Knock {
 
     ghost is_named = { λ settings. verdict_after-named (step settings) 3 (step-named settings) };
 
+    #[inline(always)]
     fn extract(_settings: &KnockSettings, parsed: &Parsed, time: u64) -> Row {
         let fields = fields_of(parsed, time);
         if !looks_at(fields.kind) {
@@ -83,6 +84,7 @@ impl Program for Knock {
         }
     }
 
+    #[inline(always)]
     fn step(
         settings: &KnockSettings,
         state: &mut FlowTable<Address, Place>,
@@ -116,6 +118,7 @@ fn looks_at(kind: u16) -> bool
 }
 
 // The step on the flow table.
+#[inline(always)]
 #[tactic(auto, unfolding(crate::specs::Step::step))]
 fn answer(
     settings: &KnockSettings,
@@ -131,9 +134,12 @@ fn answer(
     if !looks_at(fields.kind) {
         return Ok(OTHER);
     }
-    let place = flows.look(&fields.source).unwrap_or(Place::Start);
-    let next = next_place(settings, place, fields.destination_port);
-    flows.set(fields.source, next)?;
+    let (source, port) = (fields.source, fields.destination_port);
+    let place = flows.update(&source, |known| {
+        let place = known.unwrap_or(Place::Start);
+        let next = next_place(settings, place, port);
+        (next, place)
+    })?;
     Ok(verdict_at(place))
 }
 

@@ -85,6 +85,7 @@ impl Reader {
 
     /// Takes the next record, whose bytes `frame` then holds; `None` at the end. An error is answered again by each
     /// later call, which reads nothing; `frame` then holds some bytes.
+    #[inline(always)]
     pub fn next<S: Source>(
         &mut self,
         source: &mut S,
@@ -127,6 +128,7 @@ impl Reader {
     }
 
     // The next record, whose bytes `frame` then holds; `None` at the end.
+    #[inline(always)]
     fn take_record<S: Source>(
         &self,
         source: &mut S,

@@ -1,8 +1,13 @@
 -- Flows, and the pairs by which a cache holds them.
-use Rattle.std.proofs.Common.{◌≡◌, ℕ, zero, suc, Bool, true, false, List, [], ◌∷◌, take, Option, Some, None, refl, ap}
-use Rattle.std.specs.Option.{option_map}
+use Rattle.std.proofs.Common.{◌≡◌, ℕ, zero, suc, ◌+◌, Bool, true, false, List, [], ◌∷◌, length, take, Option, Some, None, refl, ap, arith}
+use Rattle.std.specs.Option.{option_map, is_some}
 use Rattle.std.specs.Map.{lookup, lookup_entry, remove_entry, keys_of}
 use Rattle.scr_program.specs.FlowTable.{known, held}
+
+-- an option that has nothing
+pub none-where-not_some : {X : Type 0} (o : Option X) → is_some o ≡ false → o ≡ None
+none-where-not_some None h = refl
+none-where-not_some (Some x) h = cc
 
 module _ {K V : Type 0} where
   -- a flow as a pair that has an entry
@@ -12,6 +17,10 @@ module _ {K V : Type 0} where
   pub known-held : (list : List (K × V)) → known (held list) ≡ list
   known-held [] = refl
   known-held (pair ∷ list) = ap (λ (rest : List (K × V)). pair ∷ rest) (known-held list)
+
+  pub length-held : (list : List (K × V)) → length (held list) ≡ length list
+  length-held [] = refl
+  length-held (pair ∷ list) = ap suc (length-held list)
 
   pub take-held : (n : ℕ) (list : List (K × V)) → take n (held list) ≡ held (take n list)
   take-held zero list = refl
@@ -64,4 +73,12 @@ module _ {K V : Type 0} where
     lookup-no_entry (pair ∷ list) h = (elim (test pair.0) as (λ y. test pair.0 ≡ y → lookup test (pair ∷ list) ≡ None) [
       | true ↦ λ t. let h' = rw t at h in cc
       | false ↦ λ t. rw t (lookup-no_entry list (rw t at h))
+    ]) refl
+
+    -- without a pair that is there, there is one pair less
+    pub length-remove_entry : (list : List (K × V)) (pair : K × V) → lookup_entry test list ≡ Some pair → length (remove_entry test list) + 1 ≡ length list
+    length-remove_entry [] pair h = cc
+    length-remove_entry (first ∷ list) pair h = (elim (test first.0) as (λ y. test first.0 ≡ y → length (remove_entry test (first ∷ list)) + 1 ≡ length (first ∷ list)) [
+      | true ↦ λ t. rw t (omega arith)
+      | false ↦ λ t. let less = length-remove_entry list pair (rw t at h) in rw t (omega (arith, less))
     ]) refl

@@ -1,19 +1,19 @@
 -- What the calls of a flow table leave in its cache.
-use Rattle.std.proofs.Common.{◌≡◌, ℕ, zero, suc, ◌+◌, ◌-◌, ◌<◌, ◌≤◌, ◌⊎◌, inl, inr, Bool, true, false, List, ◌∷◌, length, take, Option, Some, None, IsSome, IfSome, Result, Ok, Err, IsOk, OnOk, OnErr, refl, sym, ap, subst, ◌∙◌, arith}
+use Rattle.std.proofs.Common.{◌≡◌, ℕ, zero, suc, ◌+◌, ◌-◌, ◌<◌, ◌≤◌, ◌⊎◌, inl, inr, Bool, true, false, List, [], ◌∷◌, length, slice_get, take, Option, Some, None, IsSome, IfSome, Result, Ok, Err, IsOk, IfOk, OnOk, OnErr, refl, sym, ap, subst, ◌∙◌, arith}
 use Rattle.std.specs.Cmp.{IsEquivalence}
 use Rattle.std.specs.Result.{is_ok}
 use Rattle.std.specs.Option.{option_map, option_flatten}
 use Rattle.std.specs.Bool.{then_some}
 use Rattle.std.specs.List.{IsDistinct}
-use Rattle.std.specs.Map.{lookup, lookup_entry, remove_entry, keys_of}
+use Rattle.std.specs.Map.{lookup, lookup_entry, remove_entry, set_value, keys_of}
 use Rattle.std.proofs.lemmas.Map.Keys.{IsDistinct-tail}
 use Rattle.std.proofs.lemmas.List.{take_all, take-take, length-take}
-use Rattle.lru.specs.LruCache.{LruCache, lru_cache, put_entries}
+use Rattle.lru.specs.LruCache.{LruCache, lru_cache, put_entries, promoted}
 use Rattle.lru.proofs.CallerLemmas.{Contains-lookup_entry}
 use Rattle.scr_program.specs.FlowList.{set_key}
 use Rattle.scr_program.specs.FlowTable.{known, held}
 use Rattle.scr_program.specs.Kept.{IsKept, IsPlain}
-use Rattle.scr_program.proofs.Held.{held_pair, known-held, keys_of-held, take-held, lookup-held, lookup_entry-held, remove_entry-held, remove_entry-absent, lookup_entry-absent, lookup-no_entry}
+use Rattle.scr_program.proofs.Held.{held_pair, known-held, length-held, keys_of-held, take-held, lookup-held, lookup_entry-held, remove_entry-held, remove_entry-absent, lookup_entry-absent, lookup-no_entry, length-remove_entry}
 
 -- a new key in a cache that was given room for one pair more
 pub put_entries-room : {K V : Type 0} (same : K → K → Bool) (pairs : List (K × V)) (most room : ℕ) (cache : LruCache K V) (key : K) (value : V) → cache ≡ lru_cache (take room pairs) room → room ≡ most + 1 → lookup (same key) pairs ≡ None → length pairs ≤ most → lru_cache (put_entries same cache key value) cache.cap ≡ lru_cache ((key, value) ∷ pairs) (most + 1)
@@ -23,6 +23,14 @@ put_entries-room {K = K} {V = V} same pairs most room cache key value resized mo
     let less : room - 1 ≡ most = omega arith in
     let front : take most pairs ≡ pairs = take_all most pairs fits in
     rw (resized, all, none, less, front, more) refl
+
+-- a value written at a key that came to the front leaves what a put would have left
+pub put_entries-written : {K V : Type 0} (same : K → K → Bool) (cache : LruCache K V) (key : K) (held value : V) → lookup (same key) cache.entries ≡ Some held → set_value (same key) (promoted (same key) cache.entries) value ≡ put_entries same cache key value
+put_entries-written {K = K} {V = V} same cache key held value there = at (lookup_entry (same key) cache.entries) refl
+  where
+    at : (o : Option (K × V)) → lookup_entry (same key) cache.entries ≡ o → set_value (same key) (promoted (same key) cache.entries) value ≡ put_entries same cache key value
+    at None h = let none = lookup-no_entry (same key) cache.entries h in cc
+    at (Some pair) h = let passes = (Contains-lookup_entry (same key) cache.entries pair h).1 in rw (h, passes) refl
 
 module _ {K V : Type 0} (same : K → K → Bool) where
   look-plain : (key : K) (list : List (K × V)) → option_flatten (lookup (same key) (held list)) ≡ lookup (same key) list
@@ -44,6 +52,20 @@ module _ {K V : Type 0} (same : K → K → Bool) where
     | inl plain ↦ ap (λ (es : List (K × Option V)). option_flatten (lookup (same key) es)) plain.entries ∙ look-plain key (known cache.entries)
     | inr roomy ↦ ap (λ (es : List (K × Option V)). option_flatten (lookup (same key) es)) roomy.entries ∙ look-roomy one key roomy.key (known cache.entries) roomy.absent
   ]
+
+  -- so does a look at the front, where the key is
+  pub look-front : ((a b : K) → same a b ≡ true → a ≡ b) → (key : K) (flows : ℕ) (cache : LruCache K (Option V)) (ready : Option K) → IsKept same flows cache ready → (front : K × Option V) → slice_get cache.entries 0 ≡ Some front → same front.0 key ≡ true → front.1 ≡ lookup (same key) (known cache.entries)
+  look-front one key flows cache ready kept front stands same_key = at cache.entries refl
+    where
+      at : (pairs : List (K × Option V)) → cache.entries ≡ pairs → front.1 ≡ lookup (same key) (known cache.entries)
+      at [] h = let none = rw h at stands in cc
+      at (pair ∷ pairs) h =
+          let is : pair ≡ front = (let some = rw h at stands in cc) in
+          let e : front.0 ≡ key = one front.0 key same_key in
+          let self : same front.0 front.0 ≡ true = subst (λ (k : K). same front.0 k ≡ true) (sym e) same_key in
+          let passes : same key front.0 ≡ true = subst (λ (k : K). same k front.0 ≡ true) e self in
+          let found : lookup (same key) cache.entries ≡ Some front.1 = rw (h, is, passes) refl in
+          sym (ap (λ (o : Option (Option V)). option_flatten o) found) ∙ look-kept one key flows cache ready kept
 
   -- the keys of the flows are distinct where those in the cache are
   pub distinct-kept : (flows : ℕ) (cache : LruCache K (Option V)) (ready : Option K) → IsKept same flows cache ready → IsDistinct same (keys_of cache.entries) → IsDistinct same (keys_of (known cache.entries))
@@ -87,7 +109,7 @@ module _ {K V : Type 0} {same : K → K → Bool} (laws : IsEquivalence same) (o
   flattened-none : (o : Option (Option V)) (p : Option V) → option_flatten o ≡ p → o ≡ None → p ≡ None
   flattened-none o p e h = sym e ∙ ap (λ (x : Option (Option V)). option_flatten x) h
 
-  some-none : (o : Option (Option V)) → IsSome o → o ≡ None → ⊥
+  pub some-none : (o : Option (Option V)) → IsSome o → o ≡ None → ⊥
   some-none None h e = cc
   some-none (Some x) h e = cc
 
@@ -115,6 +137,9 @@ module _ {K V : Type 0} {same : K → K → Bool} (laws : IsEquivalence same) (o
       ]
       | inr here ↦ absurd (some-none _ (has-ready here) absent)
     ]
+
+    pub unready-where-absent : lookup (same key) cache.entries ≡ None → ready ≡ None
+    unready-where-absent absent = (plain-where-absent absent).1
 
     -- no key is made ready
     pub kept-absent : lookup (same key) cache.entries ≡ None → IsKept same flows cache None
@@ -192,10 +217,10 @@ module _ {K V : Type 0} {same : K → K → Bool} (laws : IsEquivalence same) (o
             ap (λ (c : LruCache K (Option V)). take flows (put_entries same c key (Some entry))) form ∙ set-ready same one key entry flows list (laws.refl key) (subst (λ (k : K). lookup (same k) list ≡ None) here roomy.absent)
       ]
 
-      set-known : (after : LruCache K (Option V)) → after ≡ lru_cache (take flows (put_entries same cache key (Some entry))) flows → known after.entries ≡ set_list
+      pub set-known : (after : LruCache K (Option V)) → after ≡ lru_cache (take flows (put_entries same cache key (Some entry))) flows → known after.entries ≡ set_list
       set-known after put = ap (λ (c : LruCache K (Option V)). known c.entries) put ∙ ap (λ (es : List (K × Option V)). known es) set-entries ∙ known-held set_list
 
-      kept-set : (after : LruCache K (Option V)) → after ≡ lru_cache (take flows (put_entries same cache key (Some entry))) flows → IsKept same flows after None
+      pub kept-set : (after : LruCache K (Option V)) → after ≡ lru_cache (take flows (put_entries same cache key (Some entry))) flows → IsKept same flows after None
       kept-set after put =
           let are : known after.entries ≡ set_list = set-known after put in
           let entries : after.entries ≡ held set_list = ap (λ (c : LruCache K (Option V)). c.entries) put ∙ set-entries in
@@ -207,18 +232,47 @@ module _ {K V : Type 0} {same : K → K → Bool} (laws : IsEquivalence same) (o
             form = inl (record { entries = entries ∙ sym (ap (λ (l : List (K × V)). held l) are); cap = ap (λ (c : LruCache K (Option V)). c.cap) put; ready_is = tt });
           }
 
-      -- what is left where the key was to be set
-      module _ {T E : Type 0} (put : Result T E) (after : LruCache K (Option V)) (ok : OnOk put (after ≡ lru_cache (take flows (put_entries same cache key (Some entry))) flows)) (err : OnErr put ((after ≡ cache) × (lookup (same key) cache.entries ≡ None))) where
-        pub kept-put : IsKept same flows after None
-        kept-put = at put ok err
+    -- A pair put in front of a cache whose room is that of the flows takes no more room than they may have.
+    put-fits : (pairs : List (K × Option V)) (most : ℕ) (value : Option V) → length pairs ≤ most → 0 < most → length (put_entries same (lru_cache pairs most) key value) ≤ most
+    put-fits pairs most value fits some = at (lookup_entry (same key) pairs) refl
+      where
+        at : (o : Option (K × Option V)) → lookup_entry (same key) pairs ≡ o → length (put_entries same (lru_cache pairs most) key value) ≤ most
+        at None h = rw h (omega (arith, length-take (most - 1) pairs))
+        at (Some pair) h = rw h (omega (arith, length-remove_entry (same key) pairs pair h))
+
+    -- what is left where the key was to get an entry, of which P holds beside the one that it had
+    module _ {T E : Type 0} (P : Option V → V → T → Type 0) (told : Result T E) (after : LruCache K (Option V)) (put : IfOk told (λ x. (entry : V) × P (option_flatten (lookup (same key) cache.entries)) entry x × (after ≡ lru_cache (put_entries same cache key (Some entry)) cache.cap))) where
+      abbrev IsPut : T → Type 0
+      IsPut x = (entry : V) × P (option_flatten (lookup (same key) cache.entries)) entry x × (after ≡ lru_cache (put_entries same cache key (Some entry)) cache.cap)
+
+      abbrev IsSet : List (K × V) → T → Type 0
+      IsSet new x = (entry : V) × P (lookup (same key) list) entry x × (new ≡ set_key same flows list key entry)
+
+      old-known : (entry : V) (x : T) → P (option_flatten (lookup (same key) cache.entries)) entry x → P (lookup (same key) list) entry x
+      old-known entry x = subst (λ (known : Option V). P known entry x) (look-kept same one key flows cache ready kept)
+
+      -- where no key is ready, the pairs are no more than the flows may be
+      module _ (none : ready ≡ None) where
+        within : (entry : V) → after ≡ lru_cache (put_entries same cache key (Some entry)) cache.cap → after ≡ lru_cache (take flows (put_entries same cache key (Some entry))) flows
+        within entry is = elim kept.form [
+          | inl plain ↦
+              let form : cache ≡ lru_cache (held list) flows = ap (λ (es : List (K × Option V)). lru_cache es cache.cap) plain.entries ∙ ap (λ (n : ℕ). lru_cache (held list) n) plain.cap in
+              let size : length (held list) ≡ length list = length-held list in
+              let fits : length (put_entries same cache key (Some entry)) ≤ flows = rw form (put-fits (held list) flows (Some entry) (rw size kept.fits) kept.some) in
+              is ∙ ap (λ (n : ℕ). lru_cache (put_entries same cache key (Some entry)) n) plain.cap ∙ ap (λ (es : List (K × Option V)). lru_cache es flows) (sym (take_all flows (put_entries same cache key (Some entry)) fits))
+          | inr roomy ↦ let some = roomy.ready_is in cc
+        ]
+
+        pub kept-changed : OnErr told ((after ≡ cache) × (lookup (same key) cache.entries ≡ None)) → IsKept same flows after None
+        kept-changed err = at told put err
           where
-            at : (r : Result T E) → OnOk r (after ≡ lru_cache (take flows (put_entries same cache key (Some entry))) flows) → OnErr r ((after ≡ cache) × (lookup (same key) cache.entries ≡ None)) → IsKept same flows after None
-            at (Ok x) is not = kept-set after is
+            at : (r : Result T E) → IfOk r IsPut → OnErr r ((after ≡ cache) × (lookup (same key) cache.entries ≡ None)) → IsKept same flows after None
+            at (Ok x) is not = kept-set is.0 after (within is.0 is.2)
             at (Err e) is not = subst (λ (c : LruCache K (Option V)). IsKept same flows c None) (sym not.0) (kept-absent not.1)
 
-        pub known-put : OnOk put (known after.entries ≡ set_list)
-        known-put = at put ok
+        pub known-changed : IfOk told (IsSet (known after.entries))
+        known-changed = at told put
           where
-            at : (r : Result T E) → OnOk r (after ≡ lru_cache (take flows (put_entries same cache key (Some entry))) flows) → OnOk r (known after.entries ≡ set_list)
-            at (Ok x) is = set-known after is
+            at : (r : Result T E) → IfOk r IsPut → IfOk r (IsSet (known after.entries))
+            at (Ok x) is = (is.0, old-known is.0 x is.1, set-known is.0 after (within is.0 is.2))
             at (Err e) is = tt

@@ -82,6 +82,7 @@ pub const ZERO_ROW: Row = Row {
 };
 
 /// All fields of a frame that came at this time, in microseconds.
+#[inline(always)]
 pub fn fields_of(parsed: &Parsed, time: u64) -> Fields
     ensures { result ≡ frame_fields parsed.now time }
 {
@@ -114,6 +115,7 @@ fn kind_number(kind: Kind) -> u16
 }
 
 /// The row of these fields, whose addresses are of one family. `unpack` reads them back.
+#[inline(always)]
 pub fn pack(fields: &Fields) -> Row
     requires kind { fields.now.kind < 2 ^ 8 }
     requires family { fields.now.source.family ≡ fields.now.destination.family }
@@ -138,6 +140,7 @@ pub fn pack(fields: &Fields) -> Row
 }
 
 /// The fields of a row, read back from their places. Both addresses have the row's family.
+#[inline(always)]
 pub fn unpack(row: &Row) -> Fields
     ensures { result ≡ unpacked row.now }
 {

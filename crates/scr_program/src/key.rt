@@ -1,4 +1,4 @@
-ghost use Rattle.std.specs.Prelude.{◌≡◌, true, ◌++◌, ◌+◌, ◌*◌, ◌^◌};
+ghost use Rattle.std.specs.Prelude.{◌≡◌, true, ◌++◌, ◌+◌, ◌*◌, ◌%◌, ◌^◌};
 ghost use Rattle.std.proofs.Common.{rules};
 ghost use Rattle.std.specs.Cmp.Rules.{hashing};
 ghost use Rattle.std.specs.Hash as fed;
@@ -28,6 +28,7 @@ pub struct FiveTuple {
 
 impl FiveTuple {
     /// The five-tuple of a packet with these fields.
+    #[inline(always)]
     pub fn of(fields: &Fields) -> Self
         ensures { result ≡ five_tuple_of fields.now }
     {
@@ -41,19 +42,22 @@ impl FiveTuple {
     }
 }
 
-// The two numbers and one word of the rest, which is three writes.
+// Hashing is most of a look-up, so it is two writes: the source, and the destination with the rest in its upper half.
+// Over IPv6 that adds the two, and few keys hash alike.
 impl Hash for FiveTuple {
-    ghost hash_input = { λ key. fed.u128 key.source.value ++ fed.u128 key.destination.value ++ fed.u64 (key.source_port * 2 ^ 32 + key.destination_port * 2 ^ 16 + key.protocol) };
+    ghost hash_input = { λ key. fed.u128 key.source.value ++ fed.u128 ((key.destination.value + (key.source_port * 2 ^ 32 + key.destination_port * 2 ^ 16 + key.protocol) * 2 ^ 64) % 2 ^ 128) };
 
     ghost respects_eq = { Prim.search (hashing, rules) };
 
     fn hash<H: Hasher>(&self, state: &mut H) {
+        let rest = u128::from(self.source_port) * (1 << 32)
+            + u128::from(self.destination_port) * (1 << 16)
+            + u128::from(self.protocol);
         self.source.hash(state);
-        self.destination.hash(state);
-        let rest = u64::from(self.source_port) * (1 << 32)
-            + u64::from(self.destination_port) * (1 << 16)
-            + u64::from(self.protocol);
-        rest.hash(state);
+        self.destination
+            .value
+            .wrapping_add(rest * (1 << 64))
+            .hash(state);
     }
 }
 

@@ -1,5 +1,6 @@
-ghost use Rattle.std.specs.Prelude.{◌≡◌, ◌≤◌, ◌⊎◌, ◌+◌, ◌^◌, ◌<◌, ◌∷◌, [], None, length, take, Some, true, IfOk, OnOk, OnErr, IsOk, IsSome};
+ghost use Rattle.std.specs.Prelude.{◌≡◌, ◌≤◌, ◌⊎◌, ◌+◌, ◌^◌, ◌<◌, ◌∷◌, [], None, length, Some, true, IfOk, OnOk, OnErr, IsOk, IsSome};
 ghost use Rattle.std.specs.List.{IsDistinct};
+ghost use Rattle.std.specs.Option.{option_flatten};
 ghost use Rattle.std.specs.Map.{lookup, keys_of};
 ghost use Rattle.std.specs.NonZero.{non_zero_usize_get};
 ghost use Rattle.lru.specs.LruCache.{lru_cache, put_entries};
@@ -54,7 +55,21 @@ impl<K: FlowKey, V: Copy + Drop> FlowTable<K, V> {
     }
 
     /// The entry of a key. The order stays.
+    #[inline(always)]
     pub fn look(&self, key: &K) -> Option<V>
+        ensures { result ≡ lookup (K.eq key.now) self.now.list }
+    {
+        // The packets of a flow often follow each other, and comparing keys takes less than hashing one.
+        if let Some((newest, entry)) = self.cache.peek_mru()
+            && newest == key
+        {
+            return *entry;
+        }
+        self.find(key)
+    }
+
+    // Looks a key up by its hash.
+    fn find(&self, key: &K) -> Option<V>
         ensures { result ≡ lookup (K.eq key.now) self.now.list }
     {
         self.cache.peek(key).copied().flatten()
@@ -88,10 +103,58 @@ impl<K: FlowKey, V: Copy + Drop> FlowTable<K, V> {
         ensures known_succeeds { IsSome (lookup (K.eq key) self.old.list) → IsOk result }
         ensures ready_succeeds { self.old.ready ≡ Some key → IsOk result }
     {
-        self.forget_other(key);
-        let put = put_within(&mut self.cache, self.flows, key, entry);
+        self.update(&key, |_| (entry, ()))
+    }
+
+    /// Gives a key the entry that `next` makes of the one it has, and makes it the most recently used, as [`FlowTable::set`]
+    /// does. Answers what `next` tells besides. A key that is a flow's is looked up once.
+    ///
+    /// # Errors
+    /// As [`FlowTable::set`] has them; `next` was called.
+    #[inline(always)]
+    pub fn update<T: Drop, F: FnOnce(Option<V>) -> (V, T)>(
+        &mut self,
+        key: &K,
+        next: F,
+    ) -> Result<T, OutOfMemory>
+        requires { F.IsAlwaysCallable next }
+        ensures updated { IfOk result (λ told. (entry : V) × F.post next (lookup (K.eq key.now) self.old.list) (entry, told)
+            × (self.new.list ≡ set_key K.eq self.old.flows self.old.list key.now entry)) }
+        ensures err { OnErr result (self.new.list ≡ self.old.list) }
+        ensures flows { self.new.flows ≡ self.old.flows }
+        ensures ready { self.new.ready ≡ None }
+        ensures known_succeeds { IsSome (lookup (K.eq key.now) self.old.list) → IsOk result }
+        ensures ready_succeeds { self.old.ready ≡ Some key.now → IsOk result }
+    {
+        if self.ready.is_some() {
+            return self.update_beside_ready(*key, next);
+        }
+        change(&mut self.cache, key, next)
+    }
+
+    // The same where a key is ready. The room that was made for it goes.
+    #[cold]
+    #[inline(never)]
+    fn update_beside_ready<T: Drop, F: FnOnce(Option<V>) -> (V, T)>(
+        &mut self,
+        key: K,
+        next: F,
+    ) -> Result<T, OutOfMemory>
+        requires { F.IsAlwaysCallable next }
+        ensures updated { IfOk result (λ told. (entry : V) × F.post next (lookup (K.eq key) self.old.list) (entry, told)
+            × (self.new.list ≡ set_key K.eq self.old.flows self.old.list key entry)) }
+        ensures err { OnErr result (self.new.list ≡ self.old.list) }
+        ensures flows { self.new.flows ≡ self.old.flows }
+        ensures ready { self.new.ready ≡ None }
+        ensures known_succeeds { IsSome (lookup (K.eq key) self.old.list) → IsOk result }
+        ensures ready_succeeds { self.old.ready ≡ Some key → IsOk result }
+    {
+        self.forget_other(&key);
+        let (entry, told) = next(self.find(&key));
+        put(&mut self.cache, key, entry)?;
+        self.cache.resize(self.flows);
         self.ready = None;
-        put
+        Ok(told)
     }
 
     /// Makes a key ready, in place of the one that was: takes the memory that its `set` may need. The flows and their
@@ -105,20 +168,21 @@ impl<K: FlowKey, V: Copy + Drop> FlowTable<K, V> {
         ensures known_succeeds { IsSome (lookup (K.eq key) self.old.list) → IsOk result }
         ensures ready_succeeds { self.old.ready ≡ Some key → IsOk result }
     {
-        self.forget_other(key);
+        self.forget_other(&key);
         let room = make_room(&mut self.cache, key);
         self.ready = room.is_ok().then_some(key);
         room
     }
 
     // Forgets the ready key, if it is another one than this.
-    fn forget_other(&mut self, key: K)
+    #[inline(always)]
+    fn forget_other(&mut self, key: &K)
         ensures flows { self.new.flows ≡ self.old.flows }
         ensures list { self.new.list ≡ self.old.list }
-        ensures other { (self.new.ready ≡ None) ⊎ (self.new.ready ≡ Some key) }
-        ensures same { self.old.ready ≡ Some key → self.new.ready ≡ Some key }
+        ensures other { (self.new.ready ≡ None) ⊎ (self.new.ready ≡ Some key.now) }
+        ensures same { self.old.ready ≡ Some key.now → self.new.ready ≡ Some key.now }
     {
-        if let Some(ready) = self.ready
+        if let Some(ready) = &self.ready
             && ready != key
         {
             self.forget_ready();
@@ -138,19 +202,41 @@ impl<K: FlowKey, V: Copy + Drop> FlowTable<K, V> {
     }
 }
 
-// Puts a pair in front, and then keeps so many pairs at most.
-fn put_within<K: FlowKey, V: Copy + Drop>(
+// Puts a pair in front, with the entry that `next` makes of the one of its key.
+#[inline(always)]
+fn change<K: FlowKey, V: Copy + Drop, T: Drop, F: FnOnce(Option<V>) -> (V, T)>(
     cache: &mut LruCache<K, Option<V>>,
-    flows: NonZeroUsize,
+    key: &K,
+    next: F,
+) -> Result<T, OutOfMemory>
+    requires { F.IsAlwaysCallable next }
+    ensures put { IfOk result (λ told. (entry : V) × F.post next (option_flatten (lookup (K.eq key.now) cache.old.entries)) (entry, told)
+        × (cache.new ≡ lru_cache (put_entries K.eq cache.old key.now (Some entry)) cache.old.cap)) }
+    ensures err { OnErr result ((cache.new ≡ cache.old) × (lookup (K.eq key.now) cache.old.entries ≡ None)) }
+    ensures succeeds { IsSome (lookup (K.eq key.now) cache.old.entries) → IsOk result }
+{
+    if let Some(held) = cache.get_mut(key) {
+        let (entry, told) = next(*held);
+        *held = Some(entry);
+        return Ok(told);
+    }
+    let (entry, told) = next(None);
+    put(cache, *key, entry)?;
+    Ok(told)
+}
+
+// Puts a pair in front. It stands apart, as steps go through `change` and mostly find their key there.
+#[inline(never)]
+fn put<K: FlowKey, V: Copy + Drop>(
+    cache: &mut LruCache<K, Option<V>>,
     key: K,
     entry: V,
 ) -> Result<(), OutOfMemory>
-    ensures put { OnOk result (cache.new ≡ lru_cache (take (non_zero_usize_get flows) (put_entries K.eq cache.old key (Some entry))) (non_zero_usize_get flows)) }
+    ensures put { OnOk result (cache.new ≡ lru_cache (put_entries K.eq cache.old key (Some entry)) cache.old.cap) }
     ensures err { OnErr result ((cache.new ≡ cache.old) × (lookup (K.eq key) cache.old.entries ≡ None)) }
     ensures succeeds { IsSome (lookup (K.eq key) cache.old.entries) → IsOk result }
 {
     cache.put(key, Some(entry))?;
-    cache.resize(flows);
     Ok(())
 }
 

@@ -140,6 +140,24 @@ fn one_flow_at_most(rt: HostRuntime) -> Result<(), OutOfMemory> {
 }
 
 #[test]
+fn an_update_sees_the_entry(rt: HostRuntime) -> Result<(), OutOfMemory> {
+    let mut table = FlowTable::make(rt.alloc(), 2)?;
+    let next = |known: Option<u64>| (known.unwrap_or(10).saturating_add(1), known);
+    assert_eq!(rt; table.update(&FIRST, next)?, None);
+    assert_eq!(rt; table.update(&FIRST, next)?, Some(11));
+    assert_eq!(rt; table.update(&SECOND, next)?, None);
+    assert_eq!(rt; table.update(&FIRST, next)?, Some(12));
+
+    // FIRST was used last, so SECOND goes where a ready key gets its entry.
+    table.prepare(FIRST_V6)?;
+    assert_eq!(rt; table.update(&FIRST_V6, next)?, None);
+    assert_eq!(rt; table.look(&FIRST_V6), Some(11));
+    assert_eq!(rt; table.look(&FIRST), Some(13));
+    assert_eq!(rt; table.look(&SECOND), None);
+    Ok(())
+}
+
+#[test]
 fn a_ready_key_is_set(rt: HostRuntime) -> Result<(), OutOfMemory> {
     let mut table = FlowTable::make(rt.alloc(), 1)?;
     table.prepare(FIRST)?;

@@ -144,6 +144,7 @@ fn rows_read<P: Program, S: Source>(
 }
 
 // Puts the row of the next frame behind the others.
+#[inline(always)]
 fn put_row<P: Program>(
     rows: &mut Vec<Row>,
     settings: &P::Settings,

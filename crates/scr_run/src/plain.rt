@@ -119,6 +119,7 @@ fn one_core_answer<P: Program, S: Source>(
 }
 
 // Takes the next frame, and gives its verdict.
+#[inline(always)]
 fn take<P: Program>(
     core: &mut OneCore<P::State>,
     settings: &P::Settings,

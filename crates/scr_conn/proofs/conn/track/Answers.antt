@@ -1,5 +1,5 @@
 -- What a segment makes of the flow table is what the step makes of its list.
-use Rattle.std.proofs.Common.{◌≡◌, ◌∙◌, List, true, false, None, Some, sym, ap}
+use Rattle.std.proofs.Common.{rules, ◌≡◌, ◌∙◌, List, true, false, None, Some, sym, ap}
 use Rattle.scr_base.specs.declared.row.Verdict.{Verdict}
 use Rattle.scr_program.specs.FlowList.{set_key}
 use Rattle.scr_program.specs.Rows.{unpacked}
@@ -39,9 +39,9 @@ returns-clause-taken c flows =
     let next : c.next_entry.result ≡ next_entry c.args.settings.now.idle c.look-known.result (unpacked c.args.row.now) = c.next_entry.ensures ∙ ap (λ (f : Fields). next_entry c.args.settings.now.idle c.look-known.result f) is in
     let some : Some c.in-Some.entry ≡ c.next_entry.result = sym c.in-Some.is in
     let limit : c.args.settings.now.flows ≡ c.args.flows.now.flows = sym flows in
-    let list : c.set.new.self.list ≡ set_key is_same_connection c.args.flows.now.flows c.args.flows.now.list c.connection_of-connection.result c.in-Some.entry = c.in_ok-set.ensures.set in
+    let list : c.update.new.self.list ≡ set_key is_same_connection c.args.flows.now.flows c.args.flows.now.list c.connection_of-connection.result c.in-Some.entry = search rules in
     let pair : List (Connection × Entry) → Verdict → List (Connection × Entry) × Verdict = λ l v. (l, v) in
     step-entered c.args.settings.now c.args.flows.now.list c.args.row.now looked c.connection_of-connection.result key c.look-known.result (Some c.in-Some.entry) c.look-known.ensures (some ∙ next)
     ∙ ap (λ n. pair (set_key is_same_connection n c.args.flows.now.list c.connection_of-connection.result c.in-Some.entry) (verdict_of c.in-Some.entry.state)) limit
     ∙ ap (λ l. pair l (verdict_of c.in-Some.entry.state)) (sym list)
-    ∙ ap (λ v. pair c.set.new.self.list v) (sym c.verdict_of.ensures)
+    ∙ ap (λ v. pair c.update.new.self.list v) (sym c.verdict_of.ensures)
