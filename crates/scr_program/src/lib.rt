@@ -3,7 +3,7 @@
 //! **What it does.** A [`Program`] makes a row of a frame and takes the rows one after another, with a verdict on each.
 //! [`fields_of`], [`pack`] and [`unpack`] turn a frame into fields and fields into a row and back, and [`read_setting`]
 //! reads the value of a setting. A [`FlowTable`] keeps the flows that were used last, over the cache of the crate `lru`,
-//! by keys such as an [`Address`] or a [`FiveTuple`].
+//! by keys such as an [`Address`] or a [`FiveTuple`]. [`FlowTable::update`] changes an entry by one look-up.
 //!
 //! **What a contract sees.** A program by six definitions over plain data: the row of a frame and a time, whether a
 //! state stands for a list of rows, the verdict of a row after a list, the count of entries after a list, whether a

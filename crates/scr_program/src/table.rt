@@ -132,7 +132,7 @@ impl<K: FlowKey, V: Copy + Drop> FlowTable<K, V> {
         change(&mut self.cache, key, next)
     }
 
-    // The same where a key is ready. The room that was made for it goes.
+    // The same where a key is ready. The room that was made for it is given back.
     #[cold]
     #[inline(never)]
     fn update_beside_ready<T: Drop, F: FnOnce(Option<V>) -> (V, T)>(
@@ -175,7 +175,6 @@ impl<K: FlowKey, V: Copy + Drop> FlowTable<K, V> {
     }
 
     // Forgets the ready key, if it is another one than this.
-    #[inline(always)]
     fn forget_other(&mut self, key: &K)
         ensures flows { self.new.flows ≡ self.old.flows }
         ensures list { self.new.list ≡ self.old.list }
@@ -225,7 +224,7 @@ fn change<K: FlowKey, V: Copy + Drop, T: Drop, F: FnOnce(Option<V>) -> (V, T)>(
     Ok(told)
 }
 
-// Puts a pair in front. It stands apart, as steps go through `change` and mostly find their key there.
+// Puts a pair in front. It stands apart, as a step mostly finds its key.
 #[inline(never)]
 fn put<K: FlowKey, V: Copy + Drop>(
     cache: &mut LruCache<K, Option<V>>,
