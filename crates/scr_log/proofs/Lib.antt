@@ -2,8 +2,10 @@ pub mod Apart
 pub mod OneLog
 pub mod Rules
 pub mod Loads
+pub mod TagLoads
 pub mod Stores
 pub mod Draws
+pub mod Halts
 pub mod Calls
 pub mod LostToAll
 pub mod Looking

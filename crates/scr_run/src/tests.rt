@@ -1,6 +1,6 @@
 //! Runs over captures in memory. Captures, reports and lines are written by hand.
 
-use crate::{Status, WordCause, WordFault, names_of, scr_main, write_fault_line};
+use crate::{Status, names_of, scr_main};
 use scr_base::{MemSink, MemSource, OutOfMemory, Source, SureSink, SureSource, Word};
 use scr_bucket::Bucket;
 use scr_pcap::{CaptureError, Order};
@@ -8,6 +8,8 @@ use std::alloc::Global;
 use std::ops::Range;
 use std::process::Abort;
 use std::test::Fail;
+
+mod statuses;
 
 const MICROSECONDS: &[u8] = &[
     0xD4, 0xC3, 0xB2, 0xA1, 2, 0, 4, 0, 0, 0, 0, 0, 0, 0, 0, 0, 0, 0, 4, 0, 1, 0, 0, 0,
@@ -370,66 +372,5 @@ fn makes_its_own_load(rt: HostRuntime) -> Result<(), Fail> {
 fn names_the_verdicts_of_a_program(rt: HostRuntime) -> Result<(), Fail> {
     let names = names_of::<Bucket>(rt.alloc())?;
     assert_eq!(rt; names.len(), 3);
-    Ok(())
-}
-
-#[test]
-fn tells_each_status(rt: HostRuntime) -> Result<(), Fail> {
-    let fault = WordFault {
-        word: 2,
-        cause: WordCause::Missing,
-    };
-    let long = CaptureError::LongRecord {
-        number: 2,
-        length: 262145,
-    };
-    let cases: [(Status, u8, &str); 12] = [
-        (Status::Done, 0, ""),
-        (Status::Words(fault), 1, "scr: word 2: Missing\n"),
-        (
-            Status::Capture(CaptureError::ShortHeader),
-            2,
-            "scr: header: ShortHeader\n",
-        ),
-        (
-            Status::Capture(CaptureError::Magic),
-            2,
-            "scr: header: Magic\n",
-        ),
-        (
-            Status::Capture(CaptureError::Version),
-            2,
-            "scr: header: Version\n",
-        ),
-        (
-            Status::Capture(CaptureError::LinkType),
-            2,
-            "scr: header: LinkType\n",
-        ),
-        (
-            Status::Capture(CaptureError::ShortRecord { number: 1000000 }),
-            2,
-            "scr: record 1000000: ShortRecord\n",
-        ),
-        (
-            Status::Capture(long),
-            2,
-            "scr: record 2: LongRecord 262145\n",
-        ),
-        (Status::ReadFault, 3, "scr: read fault\n"),
-        (Status::WriteFault, 4, "scr: write fault\n"),
-        (Status::OutOfMemory, 5, "scr: out of memory\n"),
-        (
-            Status::TooMany { limit: 1000000 },
-            6,
-            "scr: more than 1000000 records\n",
-        ),
-    ];
-    for (status, code, line) in cases {
-        let mut err = SureSink::new(rt.alloc(), 100);
-        assert_eq!(rt; write_fault_line(&mut err, &status), Ok(()));
-        assert_eq!(rt; err.written(), line.as_bytes());
-        assert_eq!(rt; status.code(), code);
-    }
     Ok(())
 }

@@ -1,7 +1,7 @@
 use Rattle.std.proofs.Common.{◌<◌, ap, sym, ◌∙◌, subst}
 use Rattle.scr_log.specs.Layout.{halt_place}
 use Rattle.scr_log.specs.Passes.{LogsOf, OfCore}
-use Rattle.scr_log.proofs.Draws.{sets_halt}
+use Rattle.scr_log.proofs.Halts.{sets_halt}
 use Rattle.scr_log.proofs.logs.Logs.halt.Goals as goal
 
 pub fetch_or-requires : goal.fetch_or-requires

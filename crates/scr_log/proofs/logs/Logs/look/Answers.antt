@@ -7,7 +7,7 @@ use Rattle.scr_log.specs.Passes.{LogsOf, OfCore, looked}
 use Rattle.scr_log.specs.Seats.{core_seen}
 use Rattle.scr_log.specs.Steps.{Mine, LoadsTagOf}
 use Rattle.scr_log.specs.Answers.{LookTells}
-use Rattle.scr_log.proofs.Loads.{loads_tag}
+use Rattle.scr_log.proofs.TagLoads.{loads_tag}
 use Rattle.scr_log.proofs.Calls.{place-from_zero}
 use Rattle.scr_log.proofs.LostToAll.{lost_to_all}
 use Rattle.scr_log.proofs.Looking.{reads, seen_after, tells_lost, tells_not_yet}
