@@ -6,7 +6,6 @@
 mod captures;
 mod faults;
 mod frames;
-mod listed;
 mod plain;
 mod report;
 mod rows;
@@ -21,15 +20,6 @@ use std::io::{self, Write};
 use std::os::fd::AsFd;
 use std::process::ExitCode;
 
-/// The threshold, where the words are exactly `program=ddos threshold=N`.
-fn threshold_of(words: &[String]) -> Option<u64> {
-    let [program, threshold] = words else { return None };
-    let digits = threshold.strip_prefix("threshold=")?;
-    let are_digits = digits.bytes().all(|it| it.is_ascii_digit());
-    let number = digits.parse::<u32>().ok()?;
-    (program == "program=ddos" && are_digits).then_some(u64::from(number))
-}
-
 /// A stream without std's buffers, whose standard output looks for the last line end in each piece.
 fn unbuffered<S: AsFd>(stream: S, fault: Fault) -> Result<File, Fault> {
     stream.as_fd().try_clone_to_owned().map(File::from).map_err(|_| fault)
@@ -42,8 +32,8 @@ fn run_words() -> Result<(), Fault> {
     let input = || unbuffered(io::stdin(), Fault::Read);
     let out = || unbuffered(io::stdout(), Fault::Write);
     match command.as_str() {
-        "run" => listed::run(threshold_of(operands).ok_or(Fault::Words)?, input()?, out()?),
-        "plain" => plain::run_words(operands, input()?, out()?),
+        "run" => plain::run_counted(operands, input()?, out()?),
+        "plain" => plain::run_plain(operands, input()?, out()?),
         "step" => {
             println!("{}", traffic::checksum_of(operands).ok_or(Fault::Words)?);
             Ok(())

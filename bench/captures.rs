@@ -1,45 +1,43 @@
-//! Reading a capture, 64 KiB at a time.
+//! Reading a capture, 64 KiB at a time. A frame is lent from the buffer, as far as its fields can reach.
 
 use crate::faults::{Fault, MOST_RECORDS};
 use std::io::{self, Read};
 
 const BUFFER: usize = 64 * 1024;
+/// No field of a frame stands behind so many bytes.
+const HEAD: usize = 128;
 const LONGEST_FRAME: u32 = 262_144;
 const FILE_HEADER: usize = 24;
 const RECORD_HEADER: usize = 16;
 const MICROSECONDS: u32 = 0xA1B2_C3D4;
 const NANOSECONDS: u32 = 0xA1B2_3C4D;
 
-/// Bytes of a stream through a buffer, handed out in whole pieces.
+/// Bytes of a stream, through a buffer.
 struct Input<R> {
     inner: R,
-    buffer: Vec<u8>,
+    buffer: Box<[u8]>,
     start: usize,
     end: usize,
 }
 
 impl<R: Read> Input<R> {
-    fn new(inner: R) -> Input<R> {
-        Input { inner, buffer: vec![0; BUFFER], start: 0, end: 0 }
+    fn new(inner: R) -> Self {
+        Input { inner, buffer: vec![0; BUFFER].into_boxed_slice(), start: 0, end: 0 }
     }
 
-    /// Has at least `wanted` bytes ready, or fewer where the stream ends, and returns how many are.
-    fn ready(&mut self, wanted: usize) -> Result<usize, Fault> {
-        if self.end - self.start < wanted {
-            self.refill(wanted)?;
-        }
-        Ok(self.end - self.start)
+    /// The bytes that are in the buffer.
+    #[inline(always)]
+    fn ready(&self) -> usize {
+        self.end - self.start
     }
 
+    /// Brings so many bytes into the buffer, or fewer where the stream ends.
     #[cold]
     #[inline(never)]
     fn refill(&mut self, wanted: usize) -> Result<(), Fault> {
         self.buffer.copy_within(self.start..self.end, 0);
         self.end -= self.start;
         self.start = 0;
-        if self.buffer.len() < wanted {
-            self.buffer.resize(wanted, 0);
-        }
         while self.end < wanted {
             match self.inner.read(&mut self.buffer[self.end..]) {
                 Ok(0) => break,
@@ -50,92 +48,112 @@ impl<R: Read> Input<R> {
         }
         Ok(())
     }
-
-    /// The next `count` bytes, which are ready.
-    fn take(&mut self, count: usize) -> &[u8] {
-        self.start += count;
-        &self.buffer[self.start - count..self.start]
-    }
 }
 
-#[derive(Clone, Copy)]
-enum Order {
-    Little,
-    Big,
+#[inline(always)]
+fn number(bytes: &[u8], at: usize, is_swapped: bool) -> u32 {
+    let number = u32::from_le_bytes([bytes[at], bytes[at + 1], bytes[at + 2], bytes[at + 3]]);
+    if is_swapped { number.swap_bytes() } else { number }
 }
 
-impl Order {
-    fn u16(self, bytes: &[u8], at: usize) -> u16 {
-        let two = [bytes[at], bytes[at + 1]];
-        match self {
-            Order::Little => u16::from_le_bytes(two),
-            Order::Big => u16::from_be_bytes(two),
-        }
-    }
-
-    fn u32(self, bytes: &[u8], at: usize) -> u32 {
-        let four = [bytes[at], bytes[at + 1], bytes[at + 2], bytes[at + 3]];
-        match self {
-            Order::Little => u32::from_le_bytes(four),
-            Order::Big => u32::from_be_bytes(four),
-        }
-    }
+/// What a record has, and the first bytes of its frame.
+pub struct Record<'a> {
+    /// In microseconds.
+    pub time: u64,
+    pub captured: usize,
+    pub head: &'a [u8],
 }
 
 /// A capture, at the record that comes next.
 pub struct Capture<R> {
     input: Input<R>,
-    order: Order,
-    /// Fractions of a second are divided by this to be microseconds.
-    fractions: u32,
+    is_swapped: bool,
+    has_nanoseconds: bool,
     number: u32,
+    /// How many bytes of the last frame aren't in the buffer yet.
+    rest: usize,
 }
 
 impl<R: Read> Capture<R> {
     /// Reads the header of a capture.
-    pub fn begin(inner: R) -> Result<Capture<R>, Fault> {
+    pub fn begin(inner: R) -> Result<Self, Fault> {
         let mut input = Input::new(inner);
-        if input.ready(FILE_HEADER)? < FILE_HEADER {
+        input.refill(FILE_HEADER)?;
+        if input.ready() < FILE_HEADER {
             return Err(Fault::Header("ShortHeader"));
         }
-        let header = input.take(FILE_HEADER);
-        let magic = |order: &Order| order.u32(header, 0);
-        let has_magic = |order: &Order| matches!(magic(order), MICROSECONDS | NANOSECONDS);
-        let order = [Order::Little, Order::Big].into_iter().find(has_magic).ok_or(Fault::Header("Magic"))?;
-        if (order.u16(header, 4), order.u16(header, 6)) != (2, 4) {
+        let header = &input.buffer[..FILE_HEADER];
+        let magic = |is_swapped| number(header, 0, is_swapped);
+        let has_magic = |it: &bool| matches!(magic(*it), MICROSECONDS | NANOSECONDS);
+        let is_swapped = [false, true].into_iter().find(has_magic).ok_or(Fault::Header("Magic"))?;
+        if header[4..8] != if is_swapped { [0, 2, 0, 4] } else { [2, 0, 4, 0] } {
             return Err(Fault::Header("Version"));
         }
-        if order.u32(header, 20) & 0xFFFF != 1 {
+        if number(header, 20, is_swapped) & 0xFFFF != 1 {
             return Err(Fault::Header("LinkType"));
         }
-        let fractions = if magic(&order) == NANOSECONDS { 1_000 } else { 1 };
-        Ok(Capture { input, order, fractions, number: 0 })
+        let has_nanoseconds = magic(is_swapped) == NANOSECONDS;
+        input.start = FILE_HEADER;
+        Ok(Capture { input, is_swapped, has_nanoseconds, number: 0, rest: 0 })
     }
 
-    /// The next frame and its time in microseconds, or none where the capture ends.
+    /// The next record, or none where the capture ends.
     #[inline(always)]
-    pub fn next(&mut self) -> Result<Option<(&[u8], u64)>, Fault> {
-        let ready = self.input.ready(RECORD_HEADER)?;
-        if ready == 0 {
+    pub fn next(&mut self) -> Result<Option<Record<'_>>, Fault> {
+        if self.input.ready() < RECORD_HEADER && !self.bring_header()? {
             return Ok(None);
         }
-        self.number += 1;
-        match ready {
-            _ if self.number > MOST_RECORDS => return Err(Fault::TooMany),
-            ready if ready < RECORD_HEADER => return Err(Fault::ShortRecord(self.number)),
-            _ => {}
+        if self.number == MOST_RECORDS {
+            return Err(Fault::TooMany);
         }
-        let header = self.input.take(RECORD_HEADER);
-        let word = |at| self.order.u32(header, at);
+        self.number += 1;
+        let at = self.input.start;
+        let header = &self.input.buffer[at..at + RECORD_HEADER];
+        let word = |at| number(header, at, self.is_swapped);
         let (seconds, fraction, captured) = (word(0), word(4), word(8));
         if captured > LONGEST_FRAME {
             return Err(Fault::LongRecord(self.number, captured));
         }
-        let length = captured as usize;
-        if self.input.ready(length)? < length {
-            return Err(Fault::ShortRecord(self.number));
+        let captured = captured as usize;
+        let head = captured.min(HEAD);
+        if self.input.ready() < RECORD_HEADER + head {
+            self.bring_head(RECORD_HEADER + head)?;
         }
-        let time = u64::from(seconds) * 1_000_000 + u64::from(fraction / self.fractions);
-        Ok(Some((self.input.take(length), time)))
+        let at = self.input.start + RECORD_HEADER;
+        let there = captured.min(self.input.end - at);
+        self.rest = captured - there;
+        self.input.start = at + there;
+        let fraction = if self.has_nanoseconds { fraction / 1_000 } else { fraction };
+        let time = u64::from(seconds) * 1_000_000 + u64::from(fraction);
+        Ok(Some(Record { time, captured, head: &self.input.buffer[at..at + head] }))
+    }
+
+    /// Passes over the rest of the last frame, and brings the next record's header into the buffer, where one follows.
+    #[cold]
+    #[inline(never)]
+    fn bring_header(&mut self) -> Result<bool, Fault> {
+        while self.rest > 0 {
+            self.input.refill(1)?;
+            let step = self.rest.min(self.input.ready());
+            if step == 0 {
+                return Err(Fault::ShortRecord(self.number));
+            }
+            self.rest -= step;
+            self.input.start += step;
+        }
+        self.input.refill(RECORD_HEADER)?;
+        match self.input.ready() {
+            0 => Ok(false),
+            _ if self.number == MOST_RECORDS => Err(Fault::TooMany),
+            ready if ready < RECORD_HEADER => Err(Fault::ShortRecord(self.number + 1)),
+            _ => Ok(true),
+        }
+    }
+
+    #[cold]
+    #[inline(never)]
+    fn bring_head(&mut self, wanted: usize) -> Result<(), Fault> {
+        self.input.refill(wanted)?;
+        if self.input.ready() < wanted { Err(Fault::ShortRecord(self.number)) } else { Ok(()) }
     }
 }

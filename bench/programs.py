@@ -7,7 +7,7 @@ from measuring import best_times, report_of
 FRAMES = 1_000_000
 # The traffic of each program, those of the same traffic together.
 TRAFFIC = [(usual, ["ddos", "heavy", "bucket"]), (knocking, ["knock"]), (connected, ["conn"])]
-MOST = 1.5
+MOST = 1.33
 HEAD = ["program", "scr, ns each", "Rust, ns each", "scr / Rust", "scr, ns of the processor", "Rust, ns of the processor",
         "scr / Rust, processor"]
 

@@ -1,8 +1,13 @@
-//! What the steps know of a packet, and the keys that their tables have.
+//! What the steps know of a packet, and the keys that their tables have, as words.
 
-use std::hash::{Hash, Hasher};
+use crate::table::Key;
 
-#[derive(Clone, Copy)]
+const FAMILY: u64 = 0xFF << 8;
+const FLAGS: u64 = 0xFF << 16;
+const KIND: u64 = 0xFF;
+
+/// Two words for each address; ports, protocol, flags, family and kind; the time; the length.
+#[derive(Clone, Copy, Default)]
 pub struct Row {
     pub w0: u64,
     pub w1: u64,
@@ -13,91 +18,52 @@ pub struct Row {
     pub w6: u64,
 }
 
+/// An address and its family.
+pub type Source = Key<3>;
+
+/// Both addresses, and ports, protocol and family in one word.
+pub type FiveTuple = Key<5>;
+
 impl Row {
-    fn family(&self) -> u8 {
-        (self.w4 >> 8) as u8
+    #[inline(always)]
+    pub fn kind(&self) -> u8 {
+        (self.w4 & KIND) as u8
     }
 
-    pub fn source(&self) -> Address {
-        Address { family: self.family(), value: u128::from(self.w0) << 64 | u128::from(self.w1) }
+    #[inline(always)]
+    pub fn is_packet(&self) -> bool {
+        matches!(self.kind(), 1..=3)
     }
 
-    pub fn destination(&self) -> Address {
-        Address { family: self.family(), value: u128::from(self.w2) << 64 | u128::from(self.w3) }
-    }
-
+    #[inline(always)]
     pub fn ports(&self) -> (u16, u16) {
         ((self.w4 >> 48) as u16, (self.w4 >> 32) as u16)
     }
 
-    pub fn protocol(&self) -> u8 {
-        (self.w4 >> 24) as u8
-    }
-
+    #[inline(always)]
     pub fn flags(&self) -> u8 {
         (self.w4 >> 16) as u8
     }
 
-    pub fn kind(&self) -> u8 {
-        self.w4 as u8
+    #[inline(always)]
+    pub fn source(&self) -> Source {
+        Key([self.w0, self.w1, self.w4 & FAMILY])
     }
 
-    pub fn is_packet(&self) -> bool {
-        (1..=3).contains(&self.kind())
+    #[inline(always)]
+    pub fn five_tuple(&self) -> FiveTuple {
+        Key([self.w0, self.w1, self.w2, self.w3, self.w4 & !(FLAGS | KIND)])
     }
-}
 
-#[derive(Clone, Copy, Default, PartialEq, Eq, PartialOrd, Ord)]
-pub struct Address {
-    family: u8,
-    value: u128,
-}
-
-impl Hash for Address {
-    fn hash<H: Hasher>(&self, state: &mut H) {
-        state.write_u128(self.value);
-    }
-}
-
-#[derive(Clone, Copy, Default, PartialEq, Eq)]
-pub struct FiveTuple {
-    source: Address,
-    destination: Address,
-    ports: (u16, u16),
-    protocol: u8,
-}
-
-impl FiveTuple {
-    pub fn of(row: &Row) -> FiveTuple {
-        FiveTuple { source: row.source(), destination: row.destination(), ports: row.ports(), protocol: row.protocol() }
-    }
-}
-
-impl Hash for FiveTuple {
-    fn hash<H: Hasher>(&self, state: &mut H) {
-        self.source.hash(state);
-        self.destination.hash(state);
-        let (source, destination) = self.ports;
-        state.write_u64(u64::from(source) << 32 | u64::from(destination) << 16 | u64::from(self.protocol));
-    }
-}
-
-#[derive(Clone, Copy, Default, PartialEq, Eq, PartialOrd, Ord)]
-pub struct Endpoint {
-    pub address: Address,
-    pub port: u16,
-}
-
-#[derive(Clone, Copy, Default, PartialEq, Eq)]
-pub struct Connection {
-    pub low: Endpoint,
-    pub high: Endpoint,
-}
-
-impl Hash for Connection {
-    fn hash<H: Hasher>(&self, state: &mut H) {
-        self.low.address.hash(state);
-        self.high.address.hash(state);
-        state.write_u64(u64::from(self.low.port) << 16 | u64::from(self.high.port));
+    /// The connection of a segment, whichever end sends it, and whether the lower end does.
+    #[inline(always)]
+    pub fn connection(&self) -> (FiveTuple, bool) {
+        let (source, destination) = (self.w4 >> 48, self.w4 >> 32 & 0xFFFF);
+        let family = self.w4 & FAMILY;
+        if (self.w0, self.w1, source) <= (self.w2, self.w3, destination) {
+            (Key([self.w0, self.w1, self.w2, self.w3, source << 48 | destination << 32 | family]), true)
+        } else {
+            (Key([self.w2, self.w3, self.w0, self.w1, destination << 48 | source << 32 | family]), false)
+        }
     }
 }

@@ -1,7 +1,7 @@
-//! The five programs' steps. They are inlined, with the table's update, into the loop that takes them: once a packet a call
+//! The five programs' steps. They are inlined, with the table's look-up, into the loop that takes them: once a packet a call
 //! would show.
 
-use crate::rows::{Address, Connection, Endpoint, FiveTuple, Row};
+use crate::rows::Row;
 use crate::table::FlowTable;
 
 pub trait Program {
@@ -21,12 +21,12 @@ const OTHER: u8 = 2;
 
 /// Drops a source's packets past the threshold.
 pub struct Ddos {
-    threshold: u64,
-    counts: FlowTable<Address, u64>,
+    pub threshold: u64,
+    counts: FlowTable<3, u64>,
 }
 
 impl Ddos {
-    pub fn new(counts: FlowTable<Address, u64>) -> Ddos {
+    pub fn new(counts: FlowTable<3, u64>) -> Ddos {
         Ddos { threshold: 1_000, counts }
     }
 }
@@ -39,8 +39,9 @@ impl Program for Ddos {
         if !row.is_packet() {
             return OTHER;
         }
-        let count = self.counts.update(row.source(), |known| Some(known.unwrap_or(0).saturating_add(1)));
-        if count > Some(self.threshold) { DROP } else { PASS }
+        let count = self.counts.used(row.source(), || 0);
+        *count = count.saturating_add(1);
+        if *count > self.threshold { DROP } else { PASS }
     }
 
     fn flows(&self) -> usize {
@@ -51,11 +52,11 @@ impl Program for Ddos {
 /// Tells the flows that have had so many bytes.
 pub struct Heavy {
     limit: u64,
-    bytes: FlowTable<FiveTuple, u64>,
+    bytes: FlowTable<5, u64>,
 }
 
 impl Heavy {
-    pub fn new(bytes: FlowTable<FiveTuple, u64>) -> Heavy {
+    pub fn new(bytes: FlowTable<5, u64>) -> Heavy {
         Heavy { limit: 1_000_000, bytes }
     }
 }
@@ -68,8 +69,9 @@ impl Program for Heavy {
         if !row.is_packet() {
             return OTHER;
         }
-        let bytes = self.bytes.update(FiveTuple::of(row), |known| Some(known.unwrap_or(0).saturating_add(row.w6)));
-        if bytes >= Some(self.limit) { HEAVY } else { PASS }
+        let bytes = self.bytes.used(row.five_tuple(), || 0);
+        *bytes = bytes.saturating_add(row.w6);
+        if *bytes >= self.limit { HEAVY } else { PASS }
     }
 
     fn flows(&self) -> usize {
@@ -77,7 +79,6 @@ impl Program for Heavy {
     }
 }
 
-#[derive(Clone, Copy, Default)]
 pub struct Tokens {
     held: u64,
     time: u64,
@@ -87,13 +88,13 @@ pub struct Tokens {
 pub struct Bucket {
     rate: u64,
     burst: u64,
-    buckets: FlowTable<FiveTuple, Tokens>,
+    buckets: FlowTable<5, Tokens>,
 }
 
 impl Bucket {
     const TOKEN: u64 = 1_000_000;
 
-    pub fn new(buckets: FlowTable<FiveTuple, Tokens>) -> Bucket {
+    pub fn new(buckets: FlowTable<5, Tokens>) -> Bucket {
         Bucket { rate: 1_000, burst: 100, buckets }
     }
 }
@@ -106,21 +107,17 @@ impl Program for Bucket {
         if !row.is_packet() {
             return OTHER;
         }
-        let (full, rate, time) = (self.burst * Bucket::TOKEN, self.rate, row.w5);
-        let mut verdict = DROP;
-        self.buckets.update(FiveTuple::of(row), |known| {
-            let mut tokens = known.map_or(Tokens { held: full, time }, |last| {
-                let gained = u128::from(time.saturating_sub(last.time)) * u128::from(rate);
-                let held = u128::from(full).min(u128::from(last.held) + gained) as u64;
-                Tokens { held, time: last.time.max(time) }
-            });
-            if tokens.held >= Bucket::TOKEN {
-                tokens.held -= Bucket::TOKEN;
-                verdict = PASS;
-            }
-            Some(tokens)
-        });
-        verdict
+        let (full, time) = (self.burst * Bucket::TOKEN, row.w5);
+        let tokens = self.buckets.used(row.five_tuple(), || Tokens { held: full, time });
+        let elapsed = time.saturating_sub(tokens.time);
+        // No more than 2^64 tokens are ever held, so that what is beyond doesn't count.
+        tokens.held = tokens.held.saturating_add(elapsed.saturating_mul(self.rate)).min(full);
+        tokens.time = tokens.time.max(time);
+        if tokens.held < Bucket::TOKEN {
+            return DROP;
+        }
+        tokens.held -= Bucket::TOKEN;
+        PASS
     }
 
     fn flows(&self) -> usize {
@@ -128,23 +125,19 @@ impl Program for Bucket {
     }
 }
 
-#[derive(Clone, Copy, Default, PartialEq, Eq)]
-pub enum Place {
-    #[default]
-    Start,
-    First,
-    Second,
-    Open,
-}
+/// How far a source has come: so many ports knocked at in turn, and with three its door is open.
+type Place = u8;
+
+const OPEN: Place = 3;
 
 /// Passes the packets of a source once it has knocked at three ports in turn.
 pub struct Knock {
     ports: [u16; 3],
-    places: FlowTable<Address, Place>,
+    places: FlowTable<3, Place>,
 }
 
 impl Knock {
-    pub fn new(places: FlowTable<Address, Place>) -> Knock {
+    pub fn new(places: FlowTable<3, Place>) -> Knock {
         Knock { ports: [7_000, 8_000, 9_000], places }
     }
 }
@@ -157,19 +150,17 @@ impl Program for Knock {
         if !matches!(row.kind(), 2 | 3) {
             return OTHER;
         }
-        let ([first, second, third], port) = (self.ports, row.ports().1);
-        let mut before = Place::Start;
-        self.places.update(row.source(), |known| {
-            before = known.unwrap_or(Place::Start);
-            Some(match before {
-                Place::Open => Place::Open,
-                Place::First if port == second => Place::Second,
-                Place::Second if port == third => Place::Open,
-                _ if port == first => Place::First,
-                _ => Place::Start,
-            })
-        });
-        if before == Place::Open { PASS } else { DROP }
+        let (_, port) = row.ports();
+        let place = self.places.used(row.source(), || 0);
+        if *place == OPEN {
+            return PASS;
+        }
+        *place = match port {
+            port if port == self.ports[usize::from(*place)] => *place + 1,
+            port if port == self.ports[0] => 1,
+            _ => 0,
+        };
+        DROP
     }
 
     fn flows(&self) -> usize {
@@ -177,93 +168,78 @@ impl Program for Knock {
     }
 }
 
-#[derive(Clone, Copy, Default, PartialEq, Eq)]
-pub enum Side {
-    #[default]
-    Low,
-    High,
-}
+const SYN_SENT: u8 = 0;
+const SYN_RECV: u8 = 1;
+const ESTABLISHED: u8 = 2;
+const FIN_WAIT: u8 = 3;
+const LAST_ACK: u8 = 4;
+const TIME_WAIT: u8 = 5;
+const CLOSED: u8 = 6;
+const INVALID: u8 = 7;
+const NOT_TCP: u8 = 8;
+/// No connection is known, or it has been idle for too long.
+const ABSENT: usize = 7;
 
-#[derive(Clone, Copy, Default)]
-pub enum State {
-    #[default]
-    SynSent,
-    SynRecv,
-    Established,
-    FinWait,
-    LastAck,
-    TimeWait,
-    Closed,
-}
+/// The sender becomes the side of the connection.
+const TURNS: u8 = 0x80;
 
-#[derive(Clone, Copy, Default)]
+/// Of each byte of flags: RST, SYN with ACK, SYN, FIN, ACK, or none that can be valid.
+const CLASSES: [u8; 256] = {
+    let mut classes = [0; 256];
+    let mut flags = 0;
+    while flags < 256 {
+        let (fin, syn, rst, ack) = (flags & 1 != 0, flags & 2 != 0, flags & 4 != 0, flags & 16 != 0);
+        classes[flags] = match (rst, syn, fin, ack) {
+            (true, ..) => 0,
+            (_, true, false, true) => 1,
+            (_, true, false, false) => 2,
+            (_, false, true, _) => 3,
+            (_, false, false, true) => 4,
+            _ => 5,
+        };
+        flags += 1;
+    }
+    classes
+};
+
+/// By the state, by whether the sender is the side, and by the class of the flags: the next state, or INVALID.
+const MOVES: [[[u8; 6]; 2]; 8] = {
+    use CLOSED as CL;
+    use ESTABLISHED as ES;
+    use FIN_WAIT as FW;
+    use INVALID as NO;
+    use LAST_ACK as LA;
+    use SYN_RECV as SR;
+    use SYN_SENT as SS;
+    use TIME_WAIT as TW;
+    const AGAIN: u8 = SYN_SENT | TURNS;
+    const CLOSES: u8 = FIN_WAIT | TURNS;
+    [
+        [[CL, SR, NO, NO, NO, NO], [CL, NO, SS, NO, NO, NO]],
+        [[CL, SR, NO, CLOSES, SR, NO], [CL, NO, SR, CLOSES, ES, NO]],
+        [[CL, ES, NO, CLOSES, ES, NO], [CL, NO, NO, CLOSES, ES, NO]],
+        [[CL, NO, NO, LA, FW, NO], [CL, NO, NO, FW, FW, NO]],
+        [[CL, NO, NO, LA, LA, NO], [CL, NO, NO, LA, TW, NO]],
+        [[CL, NO, AGAIN, TW, TW, NO], [CL, NO, AGAIN, TW, TW, NO]],
+        [[CL, NO, AGAIN, NO, NO, NO], [CL, NO, AGAIN, NO, NO, NO]],
+        [[NO, NO, AGAIN, NO, NO, NO], [NO, NO, AGAIN, NO, NO, NO]],
+    ]
+};
+
 pub struct Entry {
-    state: State,
-    side: Side,
+    state: u8,
+    is_low: bool,
     time: u64,
-}
-
-enum Class {
-    Reset,
-    SynFin,
-    SynAck,
-    Syn,
-    Fin,
-    Ack,
-    Unmarked,
-}
-
-fn class_of(flags: u8) -> Class {
-    let has = |flag| flags & flag != 0;
-    match (has(4), has(2), has(1), has(16)) {
-        (true, ..) => Class::Reset,
-        (_, true, true, _) => Class::SynFin,
-        (_, true, false, true) => Class::SynAck,
-        (_, true, false, false) => Class::Syn,
-        (_, false, true, _) => Class::Fin,
-        (_, false, false, true) => Class::Ack,
-        (_, false, false, false) => Class::Unmarked,
-    }
-}
-
-/// The state that a packet brings a connection to, and whether its sender becomes the side; none where it isn't valid.
-fn next_state(old: Option<Entry>, sender: Side, class: Class) -> Option<(State, bool)> {
-    use Class::*;
-    use State::*;
-    let near = old.is_some_and(|it| it.side == sender);
-    let plain = |state| Some((state, false));
-    match (old.map(|it| it.state), near, class) {
-        (_, _, SynFin | Unmarked) => None,
-        (None | Some(TimeWait | Closed), _, Syn) => Some((SynSent, true)),
-        (None, _, _) => None,
-        (Some(_), _, Reset) => plain(Closed),
-        (Some(SynSent), true, Syn) => plain(SynSent),
-        (Some(SynSent), false, SynAck) => plain(SynRecv),
-        (Some(SynSent | Closed), _, _) => None,
-        (Some(SynRecv), true, Ack) => plain(Established),
-        (Some(SynRecv), true, Syn) | (Some(SynRecv), false, SynAck | Ack) => plain(SynRecv),
-        (Some(SynRecv | Established), _, Fin) => Some((FinWait, true)),
-        (Some(Established), false, SynAck) | (Some(Established), _, Ack) => plain(Established),
-        (Some(FinWait), false, Fin) => plain(LastAck),
-        (Some(FinWait), _, Fin | Ack) => plain(FinWait),
-        (Some(LastAck), true, Ack) => plain(TimeWait),
-        (Some(LastAck), _, Fin | Ack) => plain(LastAck),
-        (Some(TimeWait), _, Fin | Ack) => plain(TimeWait),
-        (Some(_), _, Syn | SynAck) => None,
-    }
 }
 
 /// Follows each connection through its states.
 pub struct Conn {
     idle: u64,
-    connections: FlowTable<Connection, Entry>,
+    connections: FlowTable<5, Entry>,
 }
 
 impl Conn {
-    const INVALID: u8 = 7;
-    const OTHER: u8 = 8;
-
-    pub fn new(connections: FlowTable<Connection, Entry>) -> Conn {
+    pub fn new(connections: FlowTable<5, Entry>) -> Conn {
         Conn { idle: 60_000_000, connections }
     }
 }
@@ -276,29 +252,36 @@ impl Program for Conn {
     #[inline(always)]
     fn step(&mut self, row: &Row) -> u8 {
         if row.kind() != 2 {
-            return Conn::OTHER;
+            return NOT_TCP;
         }
-        let (ports, time, idle) = (row.ports(), row.w5, self.idle);
-        let source = Endpoint { address: row.source(), port: ports.0 };
-        let destination = Endpoint { address: row.destination(), port: ports.1 };
-        let (sender, connection) = if source <= destination {
-            (Side::Low, Connection { low: source, high: destination })
-        } else {
-            (Side::High, Connection { low: destination, high: source })
+        let (time, class) = (row.w5, usize::from(CLASSES[usize::from(row.flags())]));
+        let (connection, is_low) = row.connection();
+        let Some(place) = self.connections.place_of(&connection) else {
+            let next = MOVES[ABSENT][0][class];
+            if next != INVALID {
+                self.connections.add(connection, Entry { state: next & !TURNS, is_low, time });
+            }
+            return next & !TURNS;
         };
-        let next = self.connections.update(connection, |known| {
-            let old = known.filter(|it| time.saturating_sub(it.time) <= idle);
-            let (state, turns) = next_state(old, sender, class_of(row.flags()))?;
-            Some(match old {
-                Some(it) => Entry { state, side: if turns { sender } else { it.side }, time: it.time.max(time) },
-                None => Entry { state, side: sender, time },
-            })
-        });
-        next.map_or(Conn::INVALID, |entry| entry.state as u8)
+        let entry = self.connections.entry(place);
+        let is_known = time.saturating_sub(entry.time) <= self.idle;
+        let next = match is_known {
+            true => MOVES[usize::from(entry.state)][usize::from(entry.is_low == is_low)][class],
+            false => MOVES[ABSENT][0][class],
+        };
+        if next == INVALID {
+            return INVALID;
+        }
+        entry.state = next & !TURNS;
+        if next & TURNS != 0 {
+            entry.is_low = is_low;
+        }
+        entry.time = if is_known { entry.time.max(time) } else { time };
+        self.connections.make_newest(place);
+        next & !TURNS
     }
 
     fn flows(&self) -> usize {
         self.connections.len()
     }
 }
-

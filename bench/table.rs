@@ -1,122 +1,173 @@
 //! A flow table: std's `HashMap` from a key to its place in a `Vec`, whose elements are linked in the order of their last
-//! use. A step looks its key up once where it is there. The hasher multiplies each 64 or 128 bits into its state, as that
-//! of the proved table does; std's own would take longer.
+//! use. A step looks its key up once where it is there, and changes the entry where it lies. A key hashes itself, by the
+//! products of its words two by two; std's own hasher would take longer.
 
 use std::collections::HashMap;
 use std::hash::{BuildHasherDefault, Hash, Hasher};
 
-/// Folds the product of its state and each number into 64 bits.
-struct FoldHasher(u64);
+/// Words that tell flows apart.
+#[derive(Clone, Copy)]
+pub struct Key<const N: usize>(pub [u64; N]);
 
-impl FoldHasher {
-    const MULTIPLIER: u64 = 0x9e37_79b9_7f4a_7c15;
-
-    fn fold(&mut self, one: u64, other: u64) {
-        let product = u128::from(one) * u128::from(other);
-        self.0 = product as u64 ^ (product >> 64) as u64;
+impl<const N: usize> PartialEq for Key<N> {
+    /// Without a branch for each word, which a comparison of arrays calls out for.
+    #[inline(always)]
+    fn eq(&self, other: &Self) -> bool {
+        self.0.iter().zip(&other.0).fold(0, |differ, (one, two)| differ | (one ^ two)) == 0
     }
 }
 
-impl Default for FoldHasher {
-    fn default() -> FoldHasher {
-        FoldHasher(0x243f_6a88_85a3_08d3)
+impl<const N: usize> Eq for Key<N> {}
+
+const MULTIPLIERS: [u64; 6] = [
+    0x9E37_79B9_7F4A_7C15,
+    0xC2B2_AE3D_27D4_EB4F,
+    0x1656_67B1_9E37_79F9,
+    0x85EB_CA77_C2B2_AE63,
+    0x27D4_EB2F_1656_67C5,
+    0xD6E8_FEB8_6659_FD93,
+];
+
+/// The product of two words, folded into one.
+#[inline(always)]
+fn folded(one: u64, two: u64) -> u64 {
+    let product = u128::from(one) * u128::from(two);
+    product as u64 ^ (product >> 64) as u64
+}
+
+impl<const N: usize> Hash for Key<N> {
+    #[inline(always)]
+    fn hash<H: Hasher>(&self, state: &mut H) {
+        let word = |at: usize| if at < N { self.0[at] } else { 0 };
+        let pairs = (0..N).step_by(2);
+        let hash = pairs.fold(0, |hash, at| {
+            hash ^ folded(word(at) ^ MULTIPLIERS[at], word(at + 1) ^ MULTIPLIERS[at + 1])
+        });
+        state.write_u64(folded(hash, MULTIPLIERS[5]));
     }
 }
 
-impl Hasher for FoldHasher {
-    fn write(&mut self, bytes: &[u8]) {
-        for byte in bytes {
-            self.fold(self.0 ^ u64::from(*byte), FoldHasher::MULTIPLIER);
-        }
+/// Takes what a key says of itself.
+#[derive(Default)]
+struct KeyHasher(u64);
+
+impl Hasher for KeyHasher {
+    fn write(&mut self, _: &[u8]) {
+        unreachable!("a key writes one word");
     }
 
-    fn write_u64(&mut self, number: u64) {
-        self.fold(self.0 ^ number, FoldHasher::MULTIPLIER);
+    #[inline(always)]
+    fn write_u64(&mut self, hash: u64) {
+        self.0 = hash;
     }
 
-    fn write_u128(&mut self, number: u128) {
-        self.fold(self.0 ^ number as u64, FoldHasher::MULTIPLIER ^ (number >> 64) as u64);
-    }
-
+    #[inline(always)]
     fn finish(&self) -> u64 {
         self.0
     }
 }
 
-struct Flow<K, V> {
-    key: K,
+struct Flow<const N: usize, V> {
+    key: Key<N>,
     entry: V,
-    newer: usize,
-    older: usize,
+    newer: u32,
+    older: u32,
 }
 
-/// The flows that were used last. Place 0 of the list is none of them: it stands in front of the newest and behind the
-/// oldest.
-pub struct FlowTable<K, V> {
-    places: HashMap<K, usize, BuildHasherDefault<FoldHasher>>,
-    list: Vec<Flow<K, V>>,
+const NONE: u32 = u32::MAX;
+
+/// The flows that were used last.
+pub struct FlowTable<const N: usize, V> {
+    places: HashMap<Key<N>, u32, BuildHasherDefault<KeyHasher>>,
+    flows: Vec<Flow<N, V>>,
     most: usize,
+    newest: u32,
+    oldest: u32,
 }
 
-impl<K: Copy + Default + Eq + Hash, V: Copy + Default> FlowTable<K, V> {
-    pub fn new(most: u32) -> FlowTable<K, V> {
-        let most = most as usize;
-        let places = HashMap::with_capacity_and_hasher(most, BuildHasherDefault::default());
-        let mut list = Vec::with_capacity(most + 1);
-        list.push(Flow { key: K::default(), entry: V::default(), newer: 0, older: 0 });
-        FlowTable { places, list, most }
+impl<const N: usize, V> FlowTable<N, V> {
+    pub fn new(most: u32) -> Self {
+        FlowTable { places: HashMap::default(), flows: Vec::new(), most: most as usize, newest: NONE, oldest: NONE }
     }
 
     /// How many flows there are.
     pub fn len(&self) -> usize {
-        self.places.len()
+        self.flows.len()
     }
 
-    /// Gives a key the entry that comes after the one that it has, if there is one, and makes it the newest. Leaves the
-    /// table alone where none comes.
+    /// Where a key's flow is.
     #[inline(always)]
-    pub fn update(&mut self, key: K, next: impl FnOnce(Option<V>) -> Option<V>) -> Option<V> {
-        let known = self.places.get(&key).copied();
-        let entry = next(known.map(|place| self.list[place].entry))?;
-        match known {
-            Some(place) => {
-                self.unlink(place);
-                self.list[place].entry = entry;
-                self.link_first(place);
-            }
-            None => self.add(key, entry),
-        }
-        Some(entry)
+    pub fn place_of(&self, key: &Key<N>) -> Option<u32> {
+        self.places.get(key).copied()
     }
 
-    fn add(&mut self, key: K, entry: V) {
-        let flow = Flow { key, entry, newer: 0, older: 0 };
-        let place = if self.places.len() < self.most {
-            self.list.push(flow);
-            self.list.len() - 1
+    /// The entry of the flow at a place.
+    #[inline(always)]
+    pub fn entry(&mut self, place: u32) -> &mut V {
+        &mut self.flows[place as usize].entry
+    }
+
+    /// The entry of a key, whose flow becomes the newest. A new flow begins with `first`.
+    #[inline(always)]
+    pub fn used(&mut self, key: Key<N>, first: impl FnOnce() -> V) -> &mut V {
+        let place = match self.place_of(&key) {
+            Some(place) => {
+                self.make_newest(place);
+                place
+            }
+            None => self.add(key, first()),
+        };
+        self.entry(place)
+    }
+
+    /// Makes the flow at a place the newest.
+    #[inline(always)]
+    pub fn make_newest(&mut self, place: u32) {
+        if place != self.newest {
+            self.unlink(place);
+            self.link_newest(place);
+        }
+    }
+
+    /// Puts a new flow in front, in the place of the oldest where the table is full.
+    #[inline(never)]
+    pub fn add(&mut self, key: Key<N>, entry: V) -> u32 {
+        let flow = Flow { key, entry, newer: NONE, older: NONE };
+        let place = if self.flows.len() < self.most {
+            self.flows.push(flow);
+            self.flows.len() as u32 - 1
         } else {
-            let oldest = self.list[0].newer;
+            let oldest = self.oldest;
             self.unlink(oldest);
-            self.places.remove(&self.list[oldest].key);
-            self.list[oldest] = flow;
+            let gone = std::mem::replace(&mut self.flows[oldest as usize], flow);
+            self.places.remove(&gone.key);
             oldest
         };
         self.places.insert(key, place);
-        self.link_first(place);
+        self.link_newest(place);
+        place
     }
 
-    fn unlink(&mut self, place: usize) {
-        let Flow { newer, older, .. } = self.list[place];
-        self.list[newer].older = older;
-        self.list[older].newer = newer;
+    fn unlink(&mut self, place: u32) {
+        let Flow { newer, older, .. } = self.flows[place as usize];
+        match newer {
+            NONE => self.newest = older,
+            newer => self.flows[newer as usize].older = older,
+        }
+        match older {
+            NONE => self.oldest = newer,
+            older => self.flows[older as usize].newer = newer,
+        }
     }
 
-    fn link_first(&mut self, place: usize) {
-        let newest = self.list[0].older;
-        self.list[place].newer = 0;
-        self.list[place].older = newest;
-        self.list[newest].newer = place;
-        self.list[0].older = place;
+    fn link_newest(&mut self, place: u32) {
+        let older = self.newest;
+        let flow = &mut self.flows[place as usize];
+        (flow.newer, flow.older) = (NONE, older);
+        match older {
+            NONE => self.oldest = place,
+            older => self.flows[older as usize].newer = place,
+        }
+        self.newest = place;
     }
 }
-
