@@ -1,6 +1,7 @@
 """Streams that can't be read or written, that end early, and that are slow."""
 import contextlib
 import os
+import signal
 import subprocess
 import tempfile
 import time
@@ -47,6 +48,18 @@ def broken(program):
     with open("/dev/full", "wb") as full:
         found = outcome(program, RUN, FOUR, stdout=full, stderr=full)
         yield "both outputs on a full device", difference(found, Outcome(4, b"", b""), RUN)
+
+
+def interrupted(program):
+    """Ctrl-C ends what writes the capture, where the program ignores it, and brings the report."""
+    with file_of(FOUR) as file:
+        shell = "(cat; echo written >&2; sleep 60) | (trap '' INT; exec \"$@\")"
+        with subprocess.Popen(["sh", "-c", shell, "sh", program, *RUN], stdin=file, stdout=subprocess.PIPE, stderr=subprocess.PIPE,
+                              start_new_session=True) as process:
+            process.stderr.readline()
+            os.killpg(process.pid, signal.SIGINT)
+            out, _ = process.communicate(timeout=60)
+    yield "an interrupt that the program ignores", None if out == FOUR_REPORT else f"wanted: the report\ncame:   {out!r}"
 
 
 def unread(program):
