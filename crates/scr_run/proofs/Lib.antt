@@ -4,8 +4,3 @@ pub mod Counts
 pub mod Written
 pub mod Loading
 pub mod Main
-pub mod GivenValues
-pub mod DropListFaults
-pub mod OperandFaults
-pub mod FaultlessWords
-pub mod OneAnswer

@@ -8,14 +8,14 @@ use Rattle.scr_pcap.specs.declared.error.CaptureError.{CaptureError}
 use Rattle.scr_pcap.specs.declared.error.CaptureError.TheVariants as capture
 use Rattle.scr_run.specs.declared.status.Status.{Status}
 use Rattle.scr_run.specs.declared.status.Status.TheVariants.{Done, Words, Capture, ReadFault, WriteFault, OutOfMemory, TooMany}
-use Rattle.scr_run.specs.declared.command_words.settings.Command.{Command}
-use Rattle.scr_run.specs.declared.command_words.settings.Command.TheVariants.{Run, Plain, Load}
-use Rattle.scr_run.specs.declared.command_words.settings.RunSettings.{RunSettings}
-use Rattle.scr_run.specs.Operands.{makes_load}
-use Rattle.scr_run.specs.GivenSettings.{AreAccepted}
+use Rattle.scr_words.specs.declared.settings.Command.{Command}
+use Rattle.scr_words.specs.declared.settings.Command.TheVariants.{Run, Plain, Load}
+use Rattle.scr_words.specs.declared.settings.RunSettings.{RunSettings}
+use Rattle.scr_words.specs.Operands.{makes_load}
+use Rattle.scr_words.specs.GivenSettings.{AreAccepted}
 use Rattle.scr_run.specs.Ends.{Ends, WritesReport, WritesFront, HasFault, status_of, IsUnlessOutOfMemory}
 use Rattle.scr_run.specs.Answers.{asks_for_load, capture_by, capture_for, text_for, HasWritten, HasBegun, LoadEnds, EndsBy, MainEnds}
-use Rattle.scr_run.proofs.OneAnswer.{AreAccepted-not_refused}
+use Rattle.scr_words.proofs.OneAnswer.{AreAccepted-not_refused}
 
 -- accepted words ask for a load where their command makes one
 pub asks-load : (words : List (List ℕ)) (settings : RunSettings) → AreAccepted words settings → asks_for_load words ≡ makes_load settings.command

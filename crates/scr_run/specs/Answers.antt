@@ -7,12 +7,12 @@ use Rattle.scr_pcap.specs.Generated.{generated}
 use Rattle.scr_pcap.specs.Records.{Record}
 use Rattle.scr_run.specs.declared.status.Status.{Status}
 use Rattle.scr_run.specs.declared.status.Status.TheVariants.{Done, Words, Capture, ReadFault, WriteFault, OutOfMemory, TooMany}
-use Rattle.scr_run.specs.declared.command_words.settings.Command.{Command}
-use Rattle.scr_run.specs.declared.command_words.settings.Command.TheVariants.{Run, Plain, Load}
-use Rattle.scr_run.specs.declared.command_words.settings.RunSettings.{RunSettings}
-use Rattle.scr_run.specs.Operands.{command_named, makes_load}
-use Rattle.scr_run.specs.WordFaults.{AreRefused}
-use Rattle.scr_run.specs.GivenSettings.{AreAccepted}
+use Rattle.scr_words.specs.declared.settings.Command.{Command}
+use Rattle.scr_words.specs.declared.settings.Command.TheVariants.{Run, Plain, Load}
+use Rattle.scr_words.specs.declared.settings.RunSettings.{RunSettings}
+use Rattle.scr_words.specs.Operands.{command_named, makes_load}
+use Rattle.scr_words.specs.WordFaults.{AreRefused}
+use Rattle.scr_words.specs.GivenSettings.{AreAccepted}
 use Rattle.scr_run.specs.Rules.{rules_of}
 use Rattle.scr_run.specs.RunReport.{text_by}
 use Rattle.scr_run.specs.Ends.{Ends, StopsReading, WritesReport, WritesFront}

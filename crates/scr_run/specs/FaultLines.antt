@@ -4,11 +4,7 @@ use Rattle.scr_pcap.specs.declared.error.CaptureError.{CaptureError}
 use Rattle.scr_pcap.specs.declared.error.CaptureError.TheVariants as capture
 use Rattle.scr_run.specs.declared.status.Status.{Status}
 use Rattle.scr_run.specs.declared.status.Status.TheVariants.{Done, Words, Capture, ReadFault, WriteFault, OutOfMemory, TooMany}
-use Rattle.scr_run.specs.declared.status.WordFault.{WordFault}
-use Rattle.scr_run.specs.declared.status.WordCause.{WordCause}
-use Rattle.scr_run.specs.declared.status.WordCause.TheVariants as cause
-use Rattle.scr_plan.specs.declared.reading.DropCause.{DropCause}
-use Rattle.scr_plan.specs.declared.reading.DropCause.TheVariants as drop
+use Rattle.scr_words.specs.WordLines.{word_line}
 
 abbrev pub code_of : Status → ℕ
 code_of Done = 0
@@ -18,32 +14,6 @@ code_of ReadFault = 3
 code_of WriteFault = 4
 code_of OutOfMemory = 5
 code_of (TooMany limit) = 6
-
-abbrev pub drop_cause_name : DropCause → List ℕ
-drop_cause_name drop.Empty = codes "Empty"
-drop_cause_name drop.Digit = codes "Digit"
-drop_cause_name drop.Zero = codes "Zero"
-drop_cause_name drop.TooLarge = codes "TooLarge"
-drop_cause_name drop.Range = codes "Range"
-drop_cause_name drop.Pieces = codes "Pieces"
-
--- the end of the line of a refused word
-abbrev pub cause_line : WordCause → List ℕ
-cause_line cause.NoCommand = codes "NoCommand\n"
-cause_line cause.Command = codes "Command\n"
-cause_line cause.NoEquals = codes "NoEquals\n"
-cause_line cause.UnknownName = codes "UnknownName\n"
-cause_line cause.NotHere = codes "NotHere\n"
-cause_line cause.Twice = codes "Twice\n"
-cause_line cause.Program = codes "Program\n"
-cause_line cause.Value = codes "Value\n"
-cause_line cause.Range = codes "Range\n"
-cause_line (cause.Drop refusal place) =
-    codes "Drop " ++ (drop_cause_name refusal ++ (codes " at " ++ (decimal place ++ codes "\n")))
-cause_line cause.Missing = codes "Missing\n"
-
-abbrev pub word_line : WordFault → List ℕ
-word_line fault = (codes "scr: word " ++ (decimal fault.word ++ codes ": ")) ++ cause_line fault.cause
 
 abbrev pub short_record_line : ℕ → List ℕ
 short_record_line number = codes "scr: record " ++ decimal number ++ codes ": ShortRecord\n"

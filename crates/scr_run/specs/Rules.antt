@@ -16,8 +16,8 @@ use Rattle.scr_knock.specs.Verdicts as knock_names
 use Rattle.scr_conn.specs.Rows as conn_rows
 use Rattle.scr_conn.specs.Step as conn
 use Rattle.scr_conn.specs.Verdicts as conn_names
-use Rattle.scr_run.specs.declared.command_words.settings.ProgramSettings.{ProgramSettings}
-use Rattle.scr_run.specs.declared.command_words.settings.ProgramSettings.TheVariants.{Ddos, Heavy, Bucket, Knock, Conn}
+use Rattle.scr_words.specs.declared.settings.ProgramSettings.{ProgramSettings}
+use Rattle.scr_words.specs.declared.settings.ProgramSettings.TheVariants.{Ddos, Heavy, Bucket, Knock, Conn}
 
 pub record Rules : Type 0 where
   pub row_of : Parsed → ℕ → Row

@@ -11,9 +11,9 @@ use Rattle.scr_plan.specs.Counts.{delivered_count, kept_count}
 use Rattle.scr_plan.specs.Plan.{Plan, frame_count, plan_counts}
 use Rattle.scr_replica.specs.OneCore.{verdicts, entries, undivided}
 use Rattle.scr_report.specs.Outcome.{Outcome, report_of, report_text}
-use Rattle.scr_run.specs.declared.command_words.settings.Command.{Command}
-use Rattle.scr_run.specs.declared.command_words.settings.Command.TheVariants.{Run, Plain, Load}
-use Rattle.scr_run.specs.declared.command_words.settings.Shape.{Shape}
+use Rattle.scr_words.specs.declared.settings.Command.{Command}
+use Rattle.scr_words.specs.declared.settings.Command.TheVariants.{Run, Plain, Load}
+use Rattle.scr_words.specs.declared.settings.Shape.{Shape}
 use Rattle.scr_run.specs.Rules.{Rules}
 
 -- the rows of these records

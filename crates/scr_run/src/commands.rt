@@ -5,10 +5,9 @@ ghost use Rattle.scr_pcap.specs.Generated.{generated};
 ghost use Rattle.scr_run.specs.Rules.{ruled_by, rules_of};
 ghost use Rattle.scr_run.specs.RunReport.{shaped_text, text_by};
 ghost use Rattle.scr_run.specs.Answers.{LoadEnds, EndsBy, text_for};
-ghost use Rattle.scr_run.specs.Operands.{makes_load};
+ghost use Rattle.scr_words.specs.Operands.{makes_load};
 ghost use Rattle.scr_run.specs.Ends.{IsUnlessOutOfMemory};
 
-use crate::command_words::{Command, ProgramSettings, RunSettings};
 use crate::engine::run_engine;
 use crate::plain::plain_run;
 use crate::status::Status;
@@ -20,6 +19,7 @@ use scr_heavy::Heavy;
 use scr_knock::Knock;
 use scr_pcap::generate;
 use scr_program::Program;
+use scr_words::{Command, ProgramSettings, RunSettings};
 use std::alloc::Global;
 
 /// Does what the settings ask for, with the program that they choose.

@@ -12,7 +12,6 @@ ghost use Rattle.scr_run.specs.Rules.{ruled_by};
 ghost use Rattle.scr_run.specs.RunReport.{shaped_text, rows_of};
 ghost use Rattle.scr_run.specs.Ends.{Ends, ended, StopsReading, status_of, IsUnlessOutOfMemory};
 
-use crate::command_words::Shape;
 use crate::found::write_found;
 use crate::status::Status;
 use scr_base::{OutOfMemory, Row, Sink, Source};
@@ -22,6 +21,7 @@ use scr_plan::{CoreCounts, RunPlan};
 use scr_program::Program;
 use scr_replica::{Gathered, run_phases};
 use scr_report::Report;
+use scr_words::Shape;
 use std::alloc::Global;
 
 /// A program over a capture, on the cores of a shape: the capture is read whole, its frames are dealt to the cores, and

@@ -1,12 +1,12 @@
 ghost use Rattle.std.specs.Prelude.{◌≡◌};
 ghost use Rattle.scr_base.specs.Causes.{HasSinkCause};
 ghost use Rattle.scr_base.specs.Streams.{WritesText, BatchesText};
-ghost use Rattle.scr_run.specs.FaultLines.{word_line, cause_line, drop_cause_name, short_record_line, long_record_line, capture_line, too_many_line, fault_line};
+ghost use Rattle.scr_run.specs.FaultLines.{short_record_line, long_record_line, capture_line, too_many_line, fault_line};
 
-use crate::status::{Status, WordCause, WordFault};
+use crate::status::Status;
 use scr_base::{Batch, Piece, Sink, SinkError};
 use scr_pcap::CaptureError;
-use scr_plan::DropCause;
+use scr_words::put_word_line;
 
 /// Writes the line of a status, which tells how a run ended; one that is done has none. At `Err` a front of the line is
 /// written: the sink failed, or it wanted memory.
@@ -53,78 +53,6 @@ fn put_capture_line<E: Sink>(
         }
         CaptureError::TooMany { limit } => put_too_many_line(batch, err, *limit),
         CaptureError::ReadFault => batch.put(err, b"scr: read fault\n"),
-    }
-}
-
-fn put_word_line<E: Sink>(
-    batch: &mut Batch,
-    err: &mut E,
-    fault: &WordFault,
-) -> Result<(), SinkError>
-    ensures text { BatchesText (E.written err.old) (E.written err.new) batch.old batch.new result (word_line fault.now) }
-    ensures cause { HasSinkCause E.faults E.wants err.old err.new result }
-{
-    batch.put_pieces(
-        err,
-        &[
-            Piece::Text(b"scr: word "),
-            Piece::Number(u64::from(fault.word)),
-            Piece::Text(b": "),
-        ],
-    )?;
-    put_cause(batch, err, fault.cause)
-}
-
-fn put_cause<E: Sink>(batch: &mut Batch, err: &mut E, cause: WordCause) -> Result<(), SinkError>
-    ensures text { BatchesText (E.written err.old) (E.written err.new) batch.old batch.new result (cause_line cause) }
-    ensures cause { HasSinkCause E.faults E.wants err.old err.new result }
-{
-    match cause {
-        WordCause::NoCommand => batch.put(err, b"NoCommand\n"),
-        WordCause::Command => batch.put(err, b"Command\n"),
-        WordCause::NoEquals => batch.put(err, b"NoEquals\n"),
-        WordCause::UnknownName => batch.put(err, b"UnknownName\n"),
-        WordCause::NotHere => batch.put(err, b"NotHere\n"),
-        WordCause::Twice => batch.put(err, b"Twice\n"),
-        WordCause::Program => batch.put(err, b"Program\n"),
-        WordCause::Value => batch.put(err, b"Value\n"),
-        WordCause::Range => batch.put(err, b"Range\n"),
-        WordCause::Drop { cause, place } => put_drop_cause(batch, err, cause, place),
-        WordCause::Missing => batch.put(err, b"Missing\n"),
-    }
-}
-
-fn put_drop_cause<E: Sink>(
-    batch: &mut Batch,
-    err: &mut E,
-    cause: DropCause,
-    place: u64,
-) -> Result<(), SinkError>
-    ensures text { BatchesText (E.written err.old) (E.written err.new) batch.old batch.new result (cause_line (WordCause.Drop cause place)) }
-    ensures cause { HasSinkCause E.faults E.wants err.old err.new result }
-{
-    batch.put_pieces(
-        err,
-        &[
-            Piece::Text(b"Drop "),
-            Piece::Text(drop_cause_name(cause)),
-            Piece::Text(b" at "),
-            Piece::Number(place),
-            Piece::Text(b"\n"),
-        ],
-    )
-}
-
-fn drop_cause_name(cause: DropCause) -> &'static [u8]
-    ensures { result.now ≡ drop_cause_name cause }
-{
-    match cause {
-        DropCause::Empty => b"Empty",
-        DropCause::Digit => b"Digit",
-        DropCause::Zero => b"Zero",
-        DropCause::TooLarge => b"TooLarge",
-        DropCause::Range => b"Range",
-        DropCause::Pieces => b"Pieces",
     }
 }
 

@@ -9,7 +9,7 @@
 //! what is left or written and by counts of failures and wants. A program is seen by its row of a frame, its verdict of a
 //! row after others, its count of entries and its names (specs/Rules.antt). The report of a run is that of the one-core
 //! answer over a plan of its rows, cores, history and drop list (specs/RunReport.antt); how a run ends is said case by case
-//! of its status (specs/Ends.antt, specs/Answers.antt). The table of operands is specs/Operands.antt.
+//! of its status (specs/Ends.antt, specs/Answers.antt). The words and their settings are those of scr_words.
 //!
 //! **What is proved.** A run that is done has read the whole capture and written exactly the report that the words ask
 //! for. What stands at any other end is a front of that report, and nothing before the capture was read to its end. Words
@@ -26,7 +26,6 @@
 //! counts alone.
 #![tactic(auto)]
 
-mod command_words;
 mod commands;
 mod engine;
 mod fault_line;
@@ -38,10 +37,12 @@ mod status;
 mod tests;
 mod top;
 
-pub use command_words::{Command, ProgramSettings, RunSettings, Shape, WordsError, read_words};
 pub use engine::run_engine;
 pub use fault_line::write_fault_line;
 pub use names::names_of;
 pub use plain::plain_run;
-pub use status::{Status, WordCause, WordFault};
+pub use scr_words::{
+    Command, ProgramSettings, RunSettings, Shape, WordCause, WordFault, WordsError, read_words,
+};
+pub use status::Status;
 pub use top::scr_main;

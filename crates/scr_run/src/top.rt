@@ -5,19 +5,19 @@ ghost use Rattle.scr_base.specs.Streams.{AppendsPrefix};
 ghost use Rattle.scr_pcap.specs.declared.error.CaptureError.{CaptureError};
 ghost use Rattle.scr_pcap.specs.Records.{Record};
 ghost use Rattle.scr_pcap.specs.Reading.{IsReading};
-ghost use Rattle.scr_run.specs.declared.status.WordFault.{WordFault};
-ghost use Rattle.scr_run.specs.declared.command_words.settings.RunSettings.{RunSettings};
-ghost use Rattle.scr_run.specs.WordFaults.{AreRefused};
-ghost use Rattle.scr_run.specs.GivenSettings.{AreAccepted};
+ghost use Rattle.scr_words.specs.declared.word_fault.WordFault.{WordFault};
+ghost use Rattle.scr_words.specs.declared.settings.RunSettings.{RunSettings};
+ghost use Rattle.scr_words.specs.WordFaults.{AreRefused};
+ghost use Rattle.scr_words.specs.GivenSettings.{AreAccepted};
 ghost use Rattle.scr_run.specs.FaultLines.{fault_line};
 ghost use Rattle.scr_run.specs.Ends.{HasFault, status_of, IsUnlessOutOfMemory};
 ghost use Rattle.scr_run.specs.Answers.{asks_for_load, HasWritten, HasBegun, IsOfNoCapture, MainEnds};
 
-use crate::command_words::{WordsError, read_words};
 use crate::commands::run_chosen;
 use crate::fault_line::write_fault_line;
 use crate::status::Status;
 use scr_base::{Sink, Source, Word};
+use scr_words::{WordsError, read_words};
 use std::alloc::Global;
 
 /// All that the program does: it tests the words, takes the capture that they ask for, lets the program and the cores

@@ -1,0 +1,111 @@
+-- What follows where no operand has a fault.
+use Rattle.std.proofs.Common.{◌≡◌, ◌⊎◌, inl, inr, ℕ, suc, ◌+◌, ◌<◌, List, [], ◌∷◌, length, get_or, Bool, true, false, cond, not, Option, Some, None, refl, ap, ◌∙◌, subst, arith}
+use Rattle.std.specs.List.{find, list_any}
+use Rattle.std.specs.Prelude.{option_map, option_and_then, codes}
+use Rattle.std.specs.Str.{bytes_eq}
+use Rattle.std.proofs.lemmas.Bool.{and_parts}
+use Rattle.std.proofs.lemmas.Slice.Eq.{bytes_eq-Decides}
+use Rattle.scr_words.specs.declared.word_fault.WordCause.{WordCause}
+use Rattle.scr_words.specs.declared.word_fault.WordCause.TheVariants.{NotHere, Twice, Program, Missing}
+use Rattle.scr_words.specs.declared.word_fault.WordFault.{WordFault}
+use Rattle.scr_words.specs.declared.settings.Command.{Command}
+use Rattle.scr_words.specs.declared.operand.ProgramName.{ProgramName}
+use Rattle.scr_words.specs.declared.operand.Operand.{Operand}
+use Rattle.scr_words.specs.declared.operand.Operand.TheVariants as operand
+use Rattle.scr_words.specs.declared.operand.Form.TheVariants.{OneProgram}
+use Rattle.scr_words.specs.Operands.{table, operand_named, command_named, program_named, is_taken}
+use Rattle.scr_words.specs.WordParts.{has_equals, name_in, value_in, is_named, given, chosen}
+use Rattle.scr_words.specs.WordFaults.{operand_fault, value_fault, AreFaultless, IsMissing, AreRefused}
+use Rattle.scr_words.specs.WordTests.{HaveFaultlessValues}
+
+-- a word with a name and a value
+record IsGivenAt (name : List ℕ) (words : List (List ℕ)) (value : List ℕ) : Type 0 where
+  place : ℕ
+  within : place < length words
+  named : is_named name (get_or words place []) ≡ true
+  value_is : value_in (get_or words place []) ≡ value
+
+chosen-first : (named : Bool) (word value : List ℕ) (rest : Option (List ℕ)) → option_map value_in (cond named (Some word) rest) ≡ Some value
+    → ((named ≡ true) × (value_in word ≡ value)) ⊎ (option_map value_in rest ≡ Some value)
+chosen-first true word value rest same = inl (refl, cc)
+chosen-first false word value rest same = inr same
+
+IsGivenAt-from_given : (name : List ℕ) (words : List (List ℕ)) (value : List ℕ) → given name words ≡ Some value → IsGivenAt name words value
+unfolding given
+IsGivenAt-from_given name [] value same = absurd cc
+IsGivenAt-from_given name (word ∷ words) value same =
+    let longer : length (word ∷ words) ≡ suc (length words) = refl in
+    elim (chosen-first (is_named name word) word value (find (is_named name) words) same) [
+      | inl here ↦ record { place = 0; within = omega arith; named = here.0; value_is = here.1 }
+      | inr behind ↦ (
+          let rest = IsGivenAt-from_given name words value behind in
+          record { place = suc rest.place; within = omega (arith, rest.within); named = rest.named; value_is = rest.value_is })
+    ]
+
+-- each operand is found by its own name
+operand_named-table : (operand : Operand) → operand_named (table operand).name ≡ Some operand
+unfolding operand_named
+operand_named-table operand.Program = refl
+operand_named-table operand.Flows = refl
+operand_named-table operand.Cores = refl
+operand_named-table operand.History = refl
+operand_named-table operand.Drop = refl
+operand_named-table operand.Ring = refl
+operand_named-table operand.Threads = refl
+operand_named-table operand.Start = refl
+operand_named-table operand.Frames = refl
+operand_named-table operand.Hosts = refl
+operand_named-table operand.Threshold = refl
+operand_named-table operand.Bytes = refl
+operand_named-table operand.Rate = refl
+operand_named-table operand.Burst = refl
+operand_named-table operand.Ports = refl
+operand_named-table operand.Idle = refl
+
+none-past : (refused : Bool) (cause : WordCause) (rest : Option WordCause) → cond refused (Some cause) rest ≡ None → rest ≡ None
+none-past true cause rest same = absurd cc
+none-past false cause rest same = same
+
+-- an operand without a fault has a value without one
+value_fault-none : (command : Command) (program : Option ProgramName) (before : List (List ℕ)) (word : List ℕ) (operand : Operand)
+    → has_equals word ≡ true → operand_named (name_in word) ≡ Some operand → operand_fault command program before word ≡ None
+    → value_fault (table operand).form (value_in word) ≡ None
+unfolding operand_fault
+value_fault-none command program before word operand has known faultless =
+    let value = value_fault (table operand).form (value_in word) in
+    let again = list_any (is_named (name_in word)) before in
+    let here : cond (not (is_taken command program (table operand).taker)) (Some NotHere) (cond again (Some Twice) value) ≡ None =
+    rw (has, known) at faultless in
+    none-past again Twice value (none-past (not (is_taken command program (table operand).taker)) NotHere (cond again (Some Twice) value) here)
+
+pub HaveFaultlessValues-from : (command : Command) (operands : List (List ℕ)) → AreFaultless command operands → HaveFaultlessValues operands
+HaveFaultlessValues-from command operands faultless = λ operand value found.
+    let at = IsGivenAt-from_given (table operand).name operands value found in
+    let word = get_or operands at.place [] in
+    let named = and_parts (has_equals word) (bytes_eq (name_in word) (table operand).name) at.named in
+    let known : operand_named (name_in word) ≡ Some operand =
+    ap operand_named ((bytes_eq-Decides (name_in word) (table operand).name).0 named.1) ∙ operand_named-table operand in
+    subst (λ (v : List ℕ). value_fault (table operand).form v ≡ None) at.value_is
+    (value_fault-none command (chosen operands) _ word operand named.0 known (faultless at.place at.within))
+
+-- where each given program is one of the five, and none is chosen, none is given
+given-none : (found : Option (List ℕ)) → ((value : List ℕ) → found ≡ Some value → value_fault OneProgram value ≡ None)
+    → option_and_then program_named found ≡ None → found ≡ None
+given-none None passes none = refl
+given-none (Some value) passes none =
+    let fault : value_fault OneProgram value ≡ Some Program = rw none refl in
+    let passed : value_fault OneProgram value ≡ None = passes value refl in
+    absurd cc
+
+pub IsMissing-from : (command : Command) (operands : List (List ℕ)) (fault : WordFault) → AreFaultless command operands → chosen operands ≡ None
+    → fault.cause ≡ Missing → fault.word ≡ length operands + 2 → IsMissing command operands fault
+IsMissing-from command operands fault faultless none cause number = record {
+  faultless = faultless;
+  none = given-none (given (codes "program") operands) (HaveFaultlessValues-from command operands faultless operand.Program) none;
+  cause = cause;
+  number = number;
+}
+
+pub AreRefused-missing : (first : List ℕ) (operands : List (List ℕ)) (command : Command) (fault : WordFault) → command_named first ≡ Some command
+    → IsMissing command operands fault → AreRefused (first ∷ operands) fault
+AreRefused-missing first operands command fault named missing = rw named (inr missing)

@@ -1,0 +1,92 @@
+-- Words are accepted or refused, never both, and are refused with one fault.
+use Rattle.std.proofs.Common.{◌≡◌, ◌⊎◌, inl, inr, ℕ, ◌<◌, List, [], ◌∷◌, Option, Some, None, MatchOption, sym, ap, ◌∙◌, arith}
+use Rattle.std.specs.Prelude.{option_and_then, codes}
+use Rattle.std.proofs.lemmas.Option.{MatchOption-at_some}
+use Rattle.scr_words.specs.declared.word_fault.WordCause.{WordCause}
+use Rattle.scr_words.specs.declared.word_fault.WordFault.{WordFault}
+use Rattle.scr_words.specs.declared.settings.Command.{Command}
+use Rattle.scr_words.specs.declared.settings.ProgramSettings.{ProgramSettings}
+use Rattle.scr_words.specs.declared.settings.ProgramSettings.TheVariants.{Ddos, Heavy, Bucket, Knock, Conn}
+use Rattle.scr_words.specs.declared.settings.RunSettings.{RunSettings}
+use Rattle.scr_words.specs.declared.operand.ProgramName.{ProgramName}
+use Rattle.scr_words.specs.Operands.{command_named, program_named}
+use Rattle.scr_words.specs.WordParts.{given}
+use Rattle.scr_words.specs.WordFaults.{fault_at, AreFaultless, IsFirstFault, IsMissing, AreRefused}
+use Rattle.scr_words.specs.GivenSettings.{HasProgram, AreAccepted}
+
+-- two faults that are one
+abbrev IsSameFault : WordFault → WordFault → Type 0
+IsSameFault a b = (a.word ≡ b.word) × (a.cause ≡ b.cause)
+
+none-some : (a : WordCause) (x : Option WordCause) → x ≡ None → x ≡ Some a → ⊥
+none-some a x none some = cc
+
+Some-same : (a b : WordCause) (x : Option WordCause) → x ≡ Some a → x ≡ Some b → a ≡ b
+Some-same a b x is_a is_b = cc
+
+module _ (command : Command) (operands : List (List ℕ)) where
+  -- no first fault stands before another one
+  not_before : (a b : WordFault) (first : IsFirstFault command operands a) (second : IsFirstFault command operands b)
+      → first.place < second.place → ⊥
+  not_before a b first second earlier = none-some a.cause (fault_at command operands first.place) (second.before first.place earlier) first.cause
+
+  first-same : (a b : WordFault) → IsFirstFault command operands a → IsFirstFault command operands b → IsSameFault a b
+  first-same a b first second =
+      let front = not_before a b first second in
+      let back = not_before b a second first in
+      let at : first.place ≡ second.place = grind (arith, front, back) in (
+        omega (arith, first.number, second.number, at),
+        Some-same a.cause b.cause (fault_at command operands first.place) first.cause (ap (fault_at command operands) at ∙ second.cause),
+      )
+
+  not_first : (a : WordFault) → AreFaultless command operands → IsFirstFault command operands a → ⊥
+  not_first a faultless first = none-some a.cause (fault_at command operands first.place) (faultless first.place first.within) first.cause
+
+  missing-same : (a b : WordFault) → IsMissing command operands a → IsMissing command operands b → IsSameFault a b
+  missing-same a b one other = (one.number ∙ sym other.number, one.cause ∙ sym other.cause)
+
+  refused-same : (a b : WordFault) → IsFirstFault command operands a ⊎ IsMissing command operands a
+      → IsFirstFault command operands b ⊎ IsMissing command operands b → IsSameFault a b
+  refused-same a b (inl first) (inl second) = first-same a b first second
+  refused-same a b (inl first) (inr missing) = absurd (not_first a missing.faultless first)
+  refused-same a b (inr missing) (inl first) = absurd (not_first b missing.faultless first)
+  refused-same a b (inr one) (inr other) = missing-same a b one other
+
+matched : (found : Option Command) (P Q R : Type 0) (S T : Command → Type 0) → MatchOption found P S → MatchOption found Q T
+    → (P → Q → R) → ((command : Command) → S command → T command → R) → R
+matched None P Q R S T p q none some = none p q
+matched (Some command) P Q R S T s t none some = some command s t
+
+pub AreRefused-same : (words : List (List ℕ)) (a b : WordFault) → AreRefused words a → AreRefused words b → IsSameFault a b
+AreRefused-same [] a b one other =
+    let same : a ≡ b = one ∙ sym other in
+    (ap (λ (f : WordFault). f.word) same, ap (λ (f : WordFault). f.cause) same)
+AreRefused-same (first ∷ operands) a b one other =
+    matched (command_named first) _ _ (IsSameFault a b) _ _ one other
+    (λ is_a is_b.
+    let same : a ≡ b = is_a ∙ sym is_b in
+    (ap (λ (f : WordFault). f.word) same, ap (λ (f : WordFault). f.cause) same))
+    (λ command. refused-same command operands a b)
+
+-- a chosen program was given
+chosen-given : (found : Option (List ℕ)) (program : ProgramName) → option_and_then program_named found ≡ Some program → found ≡ None → ⊥
+chosen-given None program is none = cc
+chosen-given (Some name) program is none = cc
+
+program-given : (operands : List (List ℕ)) (settings : ProgramSettings) → HasProgram operands settings → given (codes "program") operands ≡ None → ⊥
+program-given operands (Ddos settings) has none = chosen-given _ _ has.0 none
+program-given operands (Heavy settings) has none = chosen-given _ _ has.0 none
+program-given operands (Bucket settings) has none = chosen-given _ _ has.0 none
+program-given operands (Knock settings) has none = chosen-given _ _ has.0 none
+program-given operands (Conn settings) has none = chosen-given _ _ has.0 none
+
+not_refused : (command : Command) (operands : List (List ℕ)) (settings : ProgramSettings) (fault : WordFault) → AreFaultless command operands
+    → HasProgram operands settings → IsFirstFault command operands fault ⊎ IsMissing command operands fault → ⊥
+not_refused command operands settings fault faultless has (inl first) = not_first command operands fault faultless first
+not_refused command operands settings fault faultless has (inr missing) = program-given operands settings has missing.none
+
+pub AreAccepted-not_refused : (words : List (List ℕ)) (settings : RunSettings) (fault : WordFault) → AreAccepted words settings → AreRefused words fault → ⊥
+AreAccepted-not_refused [] settings fault accepted refused = accepted
+AreAccepted-not_refused (first ∷ operands) settings fault accepted refused =
+    not_refused settings.command operands settings.program fault accepted.faultless accepted.chosen_are.program
+    (MatchOption-at_some _ _ settings.command accepted.command refused)

@@ -1,0 +1,81 @@
+-- The settings that words choose, where no word is refused.
+use Rattle.std.specs.Prelude.{◌≡◌, ℕ, ◌-◌, List, [], ◌∷◌, Some, unwrap_or, MatchResult, codes}
+use Rattle.std.specs.Option.{option_map_or}
+use Rattle.std.specs.Str.{bytes_eq}
+use Rattle.scr_base.specs.Numbers.{number_of}
+use Rattle.scr_plan.specs.Spelling.{Spells}
+use Rattle.scr_knock.specs.Ports.{ports_in}
+use Rattle.scr_words.specs.declared.settings.ProgramSettings.{ProgramSettings}
+use Rattle.scr_words.specs.declared.settings.ProgramSettings.TheVariants.{Ddos, Heavy, Bucket, Knock, Conn}
+use Rattle.scr_words.specs.declared.settings.RunSettings.{RunSettings}
+use Rattle.scr_words.specs.declared.settings.Shape.{Shape}
+use Rattle.scr_knock.specs.declared.settings.KnockSettings.{KnockSettings}
+use Rattle.scr_words.specs.declared.operand.ProgramName.TheVariants as program
+use Rattle.scr_words.specs.declared.operand.Operand.{Operand}
+use Rattle.scr_words.specs.declared.operand.Operand.TheVariants as operand
+use Rattle.scr_words.specs.Operands.{table, command_named}
+use Rattle.scr_words.specs.WordParts.{given, chosen}
+use Rattle.scr_words.specs.WordFaults.{AreFaultless}
+
+-- the value of an operand: that of its word, or the default
+abbrev pub value_for : Operand → List (List ℕ) → List ℕ
+value_for operand operands = unwrap_or (given (table operand).name operands) (table operand).default
+
+abbrev pub number_for : Operand → List (List ℕ) → ℕ
+number_for operand operands = number_of (value_for operand operands)
+
+-- the history has no default of its own: it is one less than the cores
+abbrev pub history_for : List (List ℕ) → ℕ
+history_for operands =
+    option_map_or number_of (given (table operand.History).name operands) (number_for operand.Cores operands - 1)
+
+-- the ports that a text spells
+abbrev pub HasPorts : List ℕ → KnockSettings → Type 0
+HasPorts text settings = MatchResult (ports_in text)
+    (λ ports. (settings.first ≡ ports.0) × (settings.second ≡ ports.1) × (settings.third ≡ ports.2))
+    (λ refusal. ⊥)
+
+-- the chosen program, with its numbers
+abbrev pub HasProgram : List (List ℕ) → ProgramSettings → Type 0
+HasProgram operands (Ddos settings) = (chosen operands ≡ Some program.Ddos)
+    × (settings.threshold ≡ number_for operand.Threshold operands)
+    × (settings.flows ≡ number_for operand.Flows operands)
+HasProgram operands (Heavy settings) = (chosen operands ≡ Some program.Heavy)
+    × (settings.bytes ≡ number_for operand.Bytes operands)
+    × (settings.flows ≡ number_for operand.Flows operands)
+HasProgram operands (Bucket settings) = (chosen operands ≡ Some program.Bucket)
+    × (settings.rate ≡ number_for operand.Rate operands)
+    × (settings.burst ≡ number_for operand.Burst operands)
+    × (settings.flows ≡ number_for operand.Flows operands)
+HasProgram operands (Knock settings) = (chosen operands ≡ Some program.Knock)
+    × HasPorts (value_for operand.Ports operands) settings
+    × (settings.flows ≡ number_for operand.Flows operands)
+HasProgram operands (Conn settings) = (chosen operands ≡ Some program.Conn)
+    × (settings.idle ≡ number_for operand.Idle operands)
+    × (settings.flows ≡ number_for operand.Flows operands)
+
+-- how frames go to cores
+pub record HasShape (operands : List (List ℕ)) (shape : Shape) : Type 0 where
+  pub cores : shape.cores ≡ number_for operand.Cores operands
+  pub history : shape.history ≡ history_for operands
+  pub drops : Spells (value_for operand.Drop operands) shape.drops
+  pub ring : shape.ring ≡ number_for operand.Ring operands
+  pub threads : shape.threads ≡ bytes_eq (value_for operand.Threads operands) (codes "yes")
+
+-- what the operands choose: the value of each
+pub record AreChosen (operands : List (List ℕ)) (settings : RunSettings) : Type 0 where
+  pub program : HasProgram operands settings.program
+  pub shape : HasShape operands settings.shape
+  pub start : settings.start ≡ number_for operand.Start operands
+  pub frames : settings.frames ≡ number_for operand.Frames operands
+  pub hosts : settings.hosts ≡ number_for operand.Hosts operands
+
+-- the words are accepted with these settings: the first names the command, and no operand has a fault
+pub record AreAcceptedBehind (first : List ℕ) (operands : List (List ℕ)) (settings : RunSettings) : Type 0 where
+  pub command : command_named first ≡ Some settings.command
+  pub faultless : AreFaultless settings.command operands
+  pub chosen_are : AreChosen operands settings
+
+abbrev pub AreAccepted : List (List ℕ) → RunSettings → Type 0
+AreAccepted [] settings = ⊥
+AreAccepted (first ∷ operands) settings = AreAcceptedBehind first operands settings

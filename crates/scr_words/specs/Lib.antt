@@ -1,0 +1,6 @@
+pub mod Operands
+pub mod WordParts
+pub mod WordFaults
+pub mod GivenSettings
+pub mod WordLines
+pub mod WordTests

@@ -1,0 +1,131 @@
+-- The operands of a command line: their names, who takes them, what their values are, and which value stands where the
+-- words give none.
+use Rattle.std.specs.Prelude.{ℕ, ◌≤◌, ⊤, Bool, true, false, List, [], ◌∷◌, Option, codes}
+use Rattle.std.specs.List.{find}
+use Rattle.std.specs.Option.{option_map_or}
+use Rattle.std.specs.Str.{bytes_eq}
+use Rattle.scr_words.specs.declared.settings.Command.{Command}
+use Rattle.scr_words.specs.declared.settings.Command.TheVariants.{Run, Plain, Load}
+use Rattle.scr_words.specs.declared.operand.ProgramName.{ProgramName}
+use Rattle.scr_words.specs.declared.operand.ProgramName.TheVariants.{Ddos, Heavy, Bucket, Knock, Conn}
+use Rattle.scr_words.specs.declared.operand.Operand.{Operand}
+use Rattle.scr_words.specs.declared.operand.Operand.TheVariants as operand
+use Rattle.scr_words.specs.declared.operand.Taker.{Taker}
+use Rattle.scr_words.specs.declared.operand.Taker.TheVariants as taker
+use Rattle.scr_words.specs.declared.operand.Form.{Form}
+use Rattle.scr_words.specs.declared.operand.Form.TheVariants.{OneProgram, Number, DropList, YesNo, ThreePorts}
+
+-- the names of the commands and of the programs
+abbrev pub command_name : Command → List ℕ
+command_name Run = codes "run"
+command_name Plain = codes "plain"
+command_name Load = codes "load"
+
+abbrev pub program_name : ProgramName → List ℕ
+program_name Ddos = codes "ddos"
+program_name Heavy = codes "heavy"
+program_name Bucket = codes "bucket"
+program_name Knock = codes "knock"
+program_name Conn = codes "conn"
+
+abbrev pub all_commands : List Command
+all_commands = Run ∷ Plain ∷ Load ∷ []
+
+abbrev pub all_programs : List ProgramName
+all_programs = Ddos ∷ Heavy ∷ Bucket ∷ Knock ∷ Conn ∷ []
+
+-- the command or the program with a name
+unfoldable pub command_named : List ℕ → Option Command
+command_named name = find (λ command. bytes_eq (command_name command) name) all_commands
+
+unfoldable pub program_named : List ℕ → Option ProgramName
+program_named name = find (λ program. bytes_eq (program_name program) name) all_programs
+
+-- a line of the table: the name, who takes it, what its value is, and the value that stands where none is given
+pub record Line : Type 0 where
+  pub name : List ℕ
+  pub taker : Taker
+  pub form : Form
+  pub default : List ℕ
+
+abbrev pub line : List ℕ → Taker → Form → List ℕ → Line
+line name taker form default = record { name = name; taker = taker; form = form; default = default }
+
+-- The table. A program has no default, and the default history is one less than the cores.
+abbrev pub table : Operand → Line
+table operand.Program = line (codes "program") taker.Every OneProgram []
+table operand.Flows = line (codes "flows") taker.Every (Number 1 65536) (codes "4096")
+table operand.Cores = line (codes "cores") taker.WithCores (Number 1 16) (codes "1")
+table operand.History = line (codes "history") taker.WithCores (Number 0 64) []
+table operand.Drop = line (codes "drop") taker.WithCores DropList []
+table operand.Ring = line (codes "ring") taker.WithCores (Number 1 4096) (codes "1024")
+table operand.Threads = line (codes "threads") taker.WithCores YesNo (codes "yes")
+table operand.Start = line (codes "start") taker.LoadAlone (Number 0 18446744073709551615) (codes "0")
+table operand.Frames = line (codes "frames") taker.LoadAlone (Number 0 1000000) (codes "1000")
+table operand.Hosts = line (codes "hosts") taker.LoadAlone (Number 1 65536) (codes "16")
+table operand.Threshold = line (codes "threshold") (taker.Program Ddos) (Number 0 4294967295) (codes "1000")
+table operand.Bytes = line (codes "bytes") (taker.Program Heavy) (Number 1 1000000000000) (codes "1000000")
+table operand.Rate = line (codes "rate") (taker.Program Bucket) (Number 0 1000000000) (codes "1000")
+table operand.Burst = line (codes "burst") (taker.Program Bucket) (Number 1 1000000000) (codes "100")
+table operand.Ports = line (codes "ports") (taker.Program Knock) ThreePorts (codes "7000,8000,9000")
+table operand.Idle = line (codes "idle") (taker.Program Conn) (Number 1 10000000000000) (codes "60000000")
+
+abbrev pub all_operands : List Operand
+all_operands =
+    operand.Program ∷ operand.Flows ∷ operand.Cores ∷ operand.History ∷ operand.Drop ∷ operand.Ring ∷ operand.Threads
+    ∷ operand.Start ∷ operand.Frames ∷ operand.Hosts ∷ operand.Threshold ∷ operand.Bytes ∷ operand.Rate ∷ operand.Burst
+    ∷ operand.Ports ∷ operand.Idle ∷ []
+
+-- the operand with a name
+unfoldable pub operand_named : List ℕ → Option Operand
+operand_named name = find (λ operand. bytes_eq (table operand).name name) all_operands
+
+-- which commands run cores, and which makes its own capture
+abbrev pub runs_cores : Command → Bool
+runs_cores Run = true
+runs_cores Plain = false
+runs_cores Load = true
+
+abbrev pub makes_load : Command → Bool
+makes_load Run = false
+makes_load Plain = false
+makes_load Load = true
+
+abbrev pub is_same : ProgramName → ProgramName → Bool
+is_same Ddos Ddos = true
+is_same Heavy Heavy = true
+is_same Bucket Bucket = true
+is_same Knock Knock = true
+is_same Conn Conn = true
+is_same _ _ = false
+
+-- Whether an operand with this taker is taken beside this command and the chosen program. Where no program is chosen,
+-- the operands of each of the five are.
+abbrev pub is_taken : Command → Option ProgramName → Taker → Bool
+is_taken command chosen taker.Every = true
+is_taken command chosen taker.WithCores = runs_cores command
+is_taken command chosen taker.LoadAlone = makes_load command
+is_taken command chosen (taker.Program program) = option_map_or (is_same program) chosen true
+
+-- a number's form has its ends in order
+abbrev pub IsOrdered : Form → Type 0
+IsOrdered OneProgram = ⊤
+IsOrdered (Number least greatest) = least ≤ greatest
+IsOrdered DropList = ⊤
+IsOrdered YesNo = ⊤
+IsOrdered ThreePorts = ⊤
+
+-- the value is a number; and it is this one, within the form's range
+abbrev pub is_numeric : Form → Bool
+is_numeric OneProgram = false
+is_numeric (Number least greatest) = true
+is_numeric DropList = false
+is_numeric YesNo = false
+is_numeric ThreePorts = false
+
+abbrev pub IsWithin : Form → ℕ → Type 0
+IsWithin OneProgram number = ⊥
+IsWithin (Number least greatest) number = (least ≤ number) × (number ≤ greatest)
+IsWithin DropList number = ⊥
+IsWithin YesNo number = ⊥
+IsWithin ThreePorts number = ⊥

@@ -1,0 +1,102 @@
+-- Why the words of a command line are refused. Words are numbered from 1: the first is the command, and each further one
+-- is an operand. A place counts the operands from 0, so the operand at place i is word i + 2.
+use Rattle.std.specs.Prelude.{◌≡◌, ◌⊎◌, ℕ, ◌+◌, ◌<◌, ◌||◌, not, List, [], ◌∷◌, length, take, Option, Some, None, MatchOption, Result, Ok, Err, is_some, codes, if◌then◌else◌}
+use Rattle.std.specs.List.{list_any, slice_index_or}
+use Rattle.std.specs.Option.{option_map_or}
+use Rattle.std.specs.Str.{bytes_eq}
+use Rattle.scr_plan.specs.Spelling.{pieces_of, piece_read}
+use Rattle.scr_plan.specs.declared.drops.DropRange.{DropRange}
+use Rattle.scr_plan.specs.declared.reading.DropCause.{DropCause}
+use Rattle.scr_program.specs.declared.setting.SettingError.{SettingError}
+use Rattle.scr_program.specs.declared.setting.SettingError.TheVariants as setting
+use Rattle.scr_program.specs.Settings.{setting_within}
+use Rattle.scr_knock.specs.Ports.{ports_in}
+use Rattle.scr_words.specs.declared.word_fault.WordCause.{WordCause}
+use Rattle.scr_words.specs.declared.word_fault.WordCause.TheVariants as cause
+use Rattle.scr_words.specs.declared.word_fault.WordFault.{WordFault}
+use Rattle.scr_words.specs.declared.settings.Command.{Command}
+use Rattle.scr_words.specs.declared.operand.ProgramName.{ProgramName}
+use Rattle.scr_words.specs.declared.operand.Operand.{Operand}
+use Rattle.scr_words.specs.declared.operand.Form.{Form}
+use Rattle.scr_words.specs.declared.operand.Form.TheVariants.{OneProgram, Number, DropList, YesNo, ThreePorts}
+use Rattle.scr_words.specs.Operands.{table, operand_named, command_named, program_named, is_taken}
+use Rattle.scr_words.specs.WordParts.{has_equals, name_in, value_in, is_named, given, chosen}
+
+-- The fault of the pieces of a drop list, behind so many pieces and bytes: the first that is refused, with its cause and
+-- its place.
+abbrev pub refused_or : Result DropRange DropCause → ℕ → Option WordCause → Option WordCause
+refused_or (Ok range) place rest = rest
+refused_or (Err refusal) place rest = Some (cause.Drop refusal place)
+
+abbrev pub pieces_fault : (before place : ℕ) → List (List ℕ) → Option WordCause
+pieces_fault before place [] = None
+pieces_fault before place (piece ∷ pieces) =
+    refused_or (piece_read before piece) place (pieces_fault (before + 1) (place + (length piece + 1)) pieces)
+
+unfoldable pub drop_list_fault : List ℕ → Option WordCause
+drop_list_fault [] = None
+drop_list_fault (byte ∷ text) = pieces_fault 0 0 (pieces_of (byte ∷ text))
+
+-- the fault of a value that is read as a setting is
+abbrev pub setting_cause : SettingError → WordCause
+setting_cause setting.UnknownName = cause.UnknownName
+setting_cause setting.Value = cause.Value
+setting_cause setting.Range = cause.Range
+
+abbrev pub setting_fault : {A : Type 0} → Result A SettingError → Option WordCause
+setting_fault (Ok value) = None
+setting_fault (Err error) = Some (setting_cause error)
+
+-- the fault of a value, by its form
+abbrev pub value_fault : Form → List ℕ → Option WordCause
+value_fault OneProgram value = if is_some (program_named value) then None else Some cause.Program
+value_fault (Number least greatest) value = setting_fault (setting_within value least greatest)
+value_fault DropList value = drop_list_fault value
+value_fault YesNo value =
+    if bytes_eq value (codes "yes") || bytes_eq value (codes "no") then None else Some cause.Value
+value_fault ThreePorts value = setting_fault (ports_in value)
+
+-- The fault of a word, beside this command and the chosen program and behind the operands `before`: the first of these
+-- that holds of it.
+module _ (command : Command) (program : Option ProgramName) (before : List (List ℕ)) (word : List ℕ) where
+  abbrev pub named_fault : Operand → Option WordCause
+  named_fault operand =
+      if not (is_taken command program (table operand).taker) then Some cause.NotHere else
+      (if list_any (is_named (name_in word)) before then Some cause.Twice
+      else value_fault (table operand).form (value_in word))
+
+  unfoldable pub operand_fault : Option WordCause
+  operand_fault =
+      if not (has_equals word) then Some cause.NoEquals
+      else option_map_or named_fault (operand_named (name_in word)) (Some cause.UnknownName)
+
+-- the fault of the operand at a place; the program is chosen by all operands
+abbrev pub fault_at : Command → List (List ℕ) → ℕ → Option WordCause
+fault_at command operands place =
+    operand_fault command (chosen operands) (take place operands) (slice_index_or operands place [])
+
+-- no operand has a fault
+abbrev pub AreFaultless : Command → List (List ℕ) → Type 0
+AreFaultless command operands = (place : ℕ) → place < length operands → fault_at command operands place ≡ None
+
+-- the first operand that has a fault
+pub record IsFirstFault (command : Command) (operands : List (List ℕ)) (fault : WordFault) : Type 0 where
+  pub place : ℕ
+  pub within : place < length operands
+  pub before : (i : ℕ) → i < place → fault_at command operands i ≡ None
+  pub cause : fault_at command operands place ≡ Some fault.cause
+  pub number : fault.word ≡ place + 2
+
+-- no operand has a fault, and none names a program: one word more is missing
+pub record IsMissing (command : Command) (operands : List (List ℕ)) (fault : WordFault) : Type 0 where
+  pub faultless : AreFaultless command operands
+  pub none : given (codes "program") operands ≡ None
+  pub cause : fault.cause ≡ cause.Missing
+  pub number : fault.word ≡ length operands + 2
+
+-- the words are refused with this fault
+abbrev pub AreRefused : List (List ℕ) → WordFault → Type 0
+AreRefused [] fault = fault ≡ record { word = 1; cause = cause.NoCommand }
+AreRefused (first ∷ operands) fault = MatchOption (command_named first)
+    (fault ≡ record { word = 1; cause = cause.Command })
+    (λ command. IsFirstFault command operands fault ⊎ IsMissing command operands fault)

@@ -1,0 +1,33 @@
+-- The line of a refused word: its number, its cause, and for a drop list which piece is refused.
+use Rattle.std.specs.Prelude.{ℕ, List, ◌++◌, codes, decimal}
+use Rattle.scr_plan.specs.declared.reading.DropCause.{DropCause}
+use Rattle.scr_plan.specs.declared.reading.DropCause.TheVariants as drop
+use Rattle.scr_words.specs.declared.word_fault.WordFault.{WordFault}
+use Rattle.scr_words.specs.declared.word_fault.WordCause.{WordCause}
+use Rattle.scr_words.specs.declared.word_fault.WordCause.TheVariants as cause
+
+abbrev pub drop_cause_name : DropCause → List ℕ
+drop_cause_name drop.Empty = codes "Empty"
+drop_cause_name drop.Digit = codes "Digit"
+drop_cause_name drop.Zero = codes "Zero"
+drop_cause_name drop.TooLarge = codes "TooLarge"
+drop_cause_name drop.Range = codes "Range"
+drop_cause_name drop.Pieces = codes "Pieces"
+
+-- the end of the line of a refused word
+abbrev pub cause_line : WordCause → List ℕ
+cause_line cause.NoCommand = codes "NoCommand\n"
+cause_line cause.Command = codes "Command\n"
+cause_line cause.NoEquals = codes "NoEquals\n"
+cause_line cause.UnknownName = codes "UnknownName\n"
+cause_line cause.NotHere = codes "NotHere\n"
+cause_line cause.Twice = codes "Twice\n"
+cause_line cause.Program = codes "Program\n"
+cause_line cause.Value = codes "Value\n"
+cause_line cause.Range = codes "Range\n"
+cause_line (cause.Drop refusal place) =
+    codes "Drop " ++ (drop_cause_name refusal ++ (codes " at " ++ (decimal place ++ codes "\n")))
+cause_line cause.Missing = codes "Missing\n"
+
+abbrev pub word_line : WordFault → List ℕ
+word_line fault = (codes "scr: word " ++ (decimal fault.word ++ codes ": ")) ++ cause_line fault.cause

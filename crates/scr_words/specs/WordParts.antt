@@ -1,0 +1,28 @@
+-- A word as an operand: a name and a value, parted by the first `=`.
+use Rattle.std.specs.Prelude.{ℕ, Bool, ◌&&◌, List, Option, option_map, option_and_then, codes}
+use Rattle.std.specs.List.{find}
+use Rattle.std.specs.Str.{bytes_eq}
+use Rattle.scr_plan.specs.Spelling.{has_byte, in_front, behind}
+use Rattle.scr_words.specs.declared.operand.ProgramName.{ProgramName}
+use Rattle.scr_words.specs.Operands.{program_named}
+
+abbrev pub has_equals : List ℕ → Bool
+has_equals word = has_byte 61 word
+
+abbrev pub name_in : List ℕ → List ℕ
+name_in word = in_front 61 word
+
+abbrev pub value_in : List ℕ → List ℕ
+value_in word = behind 61 word
+
+-- whether a word has this name
+abbrev pub is_named : List ℕ → List ℕ → Bool
+is_named name word = has_equals word && bytes_eq (name_in word) name
+
+-- the value of the first word that has this name
+unfoldable pub given : List ℕ → List (List ℕ) → Option (List ℕ)
+given name words = option_map value_in (find (is_named name) words)
+
+-- the program that the words choose: the value of the first that begins with `program=`, where it is one of the names
+abbrev pub chosen : List (List ℕ) → Option ProgramName
+chosen words = option_and_then program_named (given (codes "program") words)

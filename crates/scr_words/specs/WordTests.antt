@@ -1,0 +1,39 @@
+-- What the tests of words answer.
+use Rattle.std.specs.Prelude.{◌≡◌, ℕ, List, Option, Some, None, Result, Ok, Err}
+use Rattle.scr_plan.specs.declared.reading.DropError.{DropError}
+use Rattle.scr_plan.specs.declared.reading.DropError.TheVariants as drop
+use Rattle.scr_words.specs.declared.word_fault.WordCause.{WordCause}
+use Rattle.scr_words.specs.declared.word_fault.WordCause.TheVariants as cause
+use Rattle.scr_words.specs.declared.settings.Command.{Command}
+use Rattle.scr_words.specs.declared.operand.Operand.{Operand}
+use Rattle.scr_words.specs.declared.faults.TestError.{TestError}
+use Rattle.scr_words.specs.declared.faults.TestError.TheVariants as test
+use Rattle.scr_words.specs.declared.reading.WordsError.{WordsError}
+use Rattle.scr_words.specs.declared.reading.WordsError.TheVariants as words
+use Rattle.scr_words.specs.Operands.{table}
+use Rattle.scr_words.specs.WordParts.{given}
+use Rattle.scr_words.specs.WordFaults.{value_fault, IsFirstFault, AreRefused}
+
+abbrev pub drop_error : DropError → TestError
+drop_error (drop.Refused refusal place) = test.Refused (cause.Drop refusal place)
+drop_error drop.OutOfMemory = test.OutOfMemory
+
+-- a test passes where there is no fault, and refuses with the fault that there is, unless memory runs out
+abbrev pub Tells : Option WordCause → Result (Unit {0}) TestError → Type 0
+Tells fault (Ok passed) = fault ≡ None
+Tells fault (Err (test.Refused cause)) = fault ≡ Some cause
+Tells fault (Err test.OutOfMemory) = Unit {0}
+
+-- the error of words that aren't accepted
+abbrev pub IsFirstFaultBy : Command → List (List ℕ) → WordsError → Type 0
+IsFirstFaultBy command operands (words.Refused fault) = IsFirstFault command operands fault
+IsFirstFaultBy command operands words.OutOfMemory = Unit {0}
+
+abbrev pub AreRefusedBy : List (List ℕ) → WordsError → Type 0
+AreRefusedBy given (words.Refused fault) = AreRefused given fault
+AreRefusedBy given words.OutOfMemory = Unit {0}
+
+-- each value that the words give passes the test of its form
+abbrev pub HaveFaultlessValues : List (List ℕ) → Type 0
+HaveFaultlessValues operands = (operand : Operand) (value : List ℕ)
+    → given (table operand).name operands ≡ Some value → value_fault (table operand).form value ≡ None

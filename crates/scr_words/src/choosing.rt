@@ -1,0 +1,152 @@
+ghost use Rattle.std.specs.Prelude.{◌≡◌, ◌≤◌, IsTrue, Some, None, IfOk};
+ghost use Rattle.scr_base.specs.Numbers.{number_of};
+ghost use Rattle.scr_plan.specs.Spelling.{Spells};
+ghost use Rattle.scr_words.specs.Operands.{table, is_numeric, IsWithin};
+ghost use Rattle.scr_words.specs.WordParts.{chosen};
+ghost use Rattle.scr_words.specs.WordFaults.{value_fault};
+ghost use Rattle.scr_words.specs.WordTests.{HaveFaultlessValues};
+ghost use Rattle.scr_words.specs.GivenSettings.{value_for, number_for, history_for, HasPorts, HasProgram, HasShape, AreChosen};
+
+use crate::operand::{Form, Operand, ProgramName};
+use crate::parts::given;
+use crate::settings::{Command, ProgramSettings, RunSettings, Shape};
+use scr_base::{OutOfMemory, Word, read_number};
+use scr_bucket::BucketSettings;
+use scr_conn::ConnSettings;
+use scr_ddos::DdosSettings;
+use scr_heavy::HeavySettings;
+use scr_knock::KnockSettings;
+use scr_plan::Drops;
+use std::alloc::Global;
+
+/// The settings that operands choose, all of which passed their tests.
+pub(crate) fn settings(
+    alloc: Global,
+    command: Command,
+    program: ProgramName,
+    operands: &[Word],
+) -> Result<RunSettings, OutOfMemory>
+    requires values { HaveFaultlessValues operands.now }
+    requires program { chosen operands.now ≡ Some program }
+    ensures command { IfOk result (λ settings. settings.command ≡ command) }
+    ensures chosen { IfOk result (AreChosen operands.now) }
+{
+    Ok(RunSettings {
+        command,
+        program: program_settings(program, operands),
+        shape: shape(alloc, operands)?,
+        start: number(Operand::Start, operands),
+        frames: number(Operand::Frames, operands) as u32,
+        hosts: number(Operand::Hosts, operands) as u32,
+    })
+}
+
+fn program_settings(program: ProgramName, operands: &[Word]) -> ProgramSettings
+    requires values { HaveFaultlessValues operands.now }
+    requires program { chosen operands.now ≡ Some program }
+    ensures { HasProgram operands.now result }
+{
+    let flows = number(Operand::Flows, operands) as u32;
+    match program {
+        ProgramName::Ddos => ProgramSettings::Ddos(DdosSettings {
+            threshold: number(Operand::Threshold, operands),
+            flows,
+        }),
+        ProgramName::Heavy => ProgramSettings::Heavy(HeavySettings {
+            bytes: number(Operand::Bytes, operands),
+            flows,
+        }),
+        ProgramName::Bucket => ProgramSettings::Bucket(BucketSettings {
+            rate: number(Operand::Rate, operands),
+            burst: number(Operand::Burst, operands),
+            flows,
+        }),
+        ProgramName::Knock => ProgramSettings::Knock(knock_settings(flows, operands)),
+        ProgramName::Conn => ProgramSettings::Conn(ConnSettings {
+            idle: number(Operand::Idle, operands),
+            flows,
+        }),
+    }
+}
+
+fn knock_settings(flows: u32, operands: &[Word]) -> KnockSettings
+    requires some { 1 ≤ flows }
+    requires few { flows ≤ 65536 }
+    requires values { HaveFaultlessValues operands.now }
+    ensures ports { HasPorts (value_for Operand.Ports operands.now) result }
+    ensures flows { result.flows ≡ flows }
+{
+    let mut settings = KnockSettings::new(flows);
+    // The ports were tested, so they are taken.
+    let _ = settings.set(b"ports", value(Operand::Ports, operands));
+    settings
+}
+
+fn shape(alloc: Global, operands: &[Word]) -> Result<Shape, OutOfMemory>
+    requires values { HaveFaultlessValues operands.now }
+    ensures { IfOk result (HasShape operands.now) }
+{
+    let cores = number(Operand::Cores, operands) as u32;
+    Ok(Shape {
+        cores,
+        history: history(cores, operands),
+        drops: drop_list(alloc, operands)?,
+        ring: number(Operand::Ring, operands) as u32,
+        threads: value(Operand::Threads, operands) == b"yes".as_slice(),
+    })
+}
+
+fn history(cores: u32, operands: &[Word]) -> u32
+    requires cores { cores ≡ number_for Operand.Cores operands.now }
+    requires some { 1 ≤ cores }
+    requires few { cores ≤ 16 }
+    requires values { HaveFaultlessValues operands.now }
+    ensures history { result ≡ history_for operands.now }
+    ensures short { result ≤ 64 }
+{
+    match given(Operand::History.line().name, operands) {
+        Some(text) => spelled(Operand::History, text) as u32,
+        None => cores - 1,
+    }
+}
+
+fn drop_list(alloc: Global, operands: &[Word]) -> Result<Drops, OutOfMemory>
+    ensures { IfOk result (Spells (value_for Operand.Drop operands.now)) }
+{
+    // The list was tested, so only memory can be missing.
+    Drops::read(alloc, value(Operand::Drop, operands)).map_err(|_| OutOfMemory)
+}
+
+// The value that the words give an operand, or its default.
+fn value<'a>(operand: Operand, operands: &'a [Word]) -> &'a [u8]
+    ensures { result.now ≡ value_for operand operands.now }
+{
+    let line = operand.line();
+    given(line.name, operands).unwrap_or(line.default)
+}
+
+fn number(operand: Operand, operands: &[Word]) -> u64
+    requires numeric { IsTrue (is_numeric (table operand).form) }
+    requires default { value_fault (table operand).form (table operand).default ≡ None }
+    requires values { HaveFaultlessValues operands.now }
+    ensures number { result ≡ number_for operand operands.now }
+    ensures within { IsWithin (table operand).form result }
+{
+    spelled(operand, value(operand, operands))
+}
+
+// The number that a tested value spells.
+fn spelled(operand: Operand, value: &[u8]) -> u64
+    requires numeric { IsTrue (is_numeric (table operand).form) }
+    requires faultless { value_fault (table operand).form value.now ≡ None }
+    ensures number { result ≡ number_of value.now }
+    ensures within { IsWithin (table operand).form result }
+{
+    let Form::Number { least, greatest } = operand.line().form else {
+        unreachable!()
+    };
+    match read_number(value, least, greatest) {
+        Ok(number) => number,
+        Err(_) => unreachable!(),
+    }
+}

@@ -1,0 +1,138 @@
+ghost use Rattle.std.specs.Prelude.{◌≡◌, ◌<◌, length, OnOk, IfErr};
+ghost use Rattle.scr_words.specs.Operands.{IsOrdered};
+ghost use Rattle.scr_words.specs.WordFaults.{value_fault, operand_fault, AreFaultless};
+ghost use Rattle.scr_words.specs.WordTests.{Tells, IsFirstFaultBy};
+
+use crate::operand::{Form, Operand, ProgramName};
+use crate::parts::{chosen, is_named, parts_of};
+use crate::reading::WordsError;
+use crate::settings::Command;
+use crate::word_fault::{WordCause, WordFault};
+use scr_base::Word;
+use scr_knock::KnockSettings;
+use scr_plan::{DropError, Drops};
+use scr_program::{SettingError, read_setting};
+use std::alloc::Global;
+
+/// Why the test of a word didn't pass.
+#[derive(Clone, Copy, Debug, PartialEq, Eq)]
+pub(crate) enum TestError {
+    /// The word is refused.
+    Refused(WordCause),
+    /// There was no memory for the test.
+    OutOfMemory,
+}
+
+impl From<SettingError> for TestError {
+    ghost use Rattle.std.specs.Prelude.{◌≡◌};
+    ghost use Rattle.scr_words.specs.WordFaults.{setting_cause};
+    ghost use Rattle.scr_words.specs.declared.faults.TestError.TheVariants.{Refused};
+
+    ghost from_gives = { λ error made. made ≡ Refused (setting_cause error) };
+
+    fn from(error: SettingError) -> Self {
+        TestError::Refused(match error {
+            SettingError::UnknownName => WordCause::UnknownName,
+            SettingError::Value => WordCause::Value,
+            SettingError::Range => WordCause::Range,
+        })
+    }
+}
+
+impl From<DropError> for TestError {
+    ghost use Rattle.std.specs.Prelude.{◌≡◌};
+    ghost use Rattle.scr_words.specs.WordTests.{drop_error};
+
+    ghost from_gives = { λ error made. made ≡ drop_error error };
+
+    fn from(error: DropError) -> Self {
+        match error {
+            DropError::Refused { cause, place } => {
+                TestError::Refused(WordCause::Drop { cause, place })
+            }
+            DropError::OutOfMemory => TestError::OutOfMemory,
+        }
+    }
+}
+
+/// Tests the operands in order, up to the first that is refused.
+pub(crate) fn test_operands(
+    alloc: Global,
+    command: Command,
+    operands: &[Word],
+) -> Result<(), WordsError>
+    requires { length operands.now < 4294967294 }
+    ensures ok { OnOk result (AreFaultless command operands.now) }
+    ensures refused { IfErr result (IsFirstFaultBy command operands.now) }
+{
+    let program = chosen(operands);
+    for (place, word) in operands.iter().enumerate() {
+        match test_operand(alloc, command, program, &operands[..place], word.bytes()) {
+            Ok(()) => {}
+            Err(TestError::Refused(cause)) => {
+                let word = place as u32 + 2;
+                return Err(WordsError::Refused(WordFault { word, cause }));
+            }
+            Err(TestError::OutOfMemory) => return Err(WordsError::OutOfMemory),
+        }
+    }
+    Ok(())
+}
+
+// Tests a word behind those that passed.
+fn test_operand(
+    alloc: Global,
+    command: Command,
+    program: Option<ProgramName>,
+    before: &[Word],
+    word: &[u8],
+) -> Result<(), TestError>
+    ensures { Tells (operand_fault command program before.now word.now) result }
+{
+    let Some((name, value)) = parts_of(word) else {
+        return Err(TestError::Refused(WordCause::NoEquals));
+    };
+    let Some(operand) = Operand::named(name) else {
+        return Err(TestError::Refused(WordCause::UnknownName));
+    };
+    let line = operand.line();
+    if !line.taker.is_met(command, program) {
+        return Err(TestError::Refused(WordCause::NotHere));
+    }
+    // At most one word of each name has passed, so few stand before this one.
+    if before.iter().any(|earlier| is_named(name, earlier.bytes())) {
+        return Err(TestError::Refused(WordCause::Twice));
+    }
+    test_value(alloc, line.form, value)
+}
+
+// Tests a value for its form and range.
+fn test_value(alloc: Global, form: Form, value: &[u8]) -> Result<(), TestError>
+    requires { IsOrdered form }
+    ensures { Tells (value_fault form value.now) result }
+{
+    match form {
+        Form::OneProgram => match ProgramName::named(value) {
+            Some(_) => Ok(()),
+            None => Err(TestError::Refused(WordCause::Program)),
+        },
+        Form::Number { least, greatest } => {
+            let _ = read_setting(value, least, greatest)?;
+            Ok(())
+        }
+        Form::DropList => {
+            let _ = Drops::read(alloc, value)?;
+            Ok(())
+        }
+        Form::YesNo => {
+            if value != b"yes".as_slice() && value != b"no".as_slice() {
+                return Err(TestError::Refused(WordCause::Value));
+            }
+            Ok(())
+        }
+        Form::ThreePorts => {
+            KnockSettings::new(1).set(b"ports", value)?;
+            Ok(())
+        }
+    }
+}

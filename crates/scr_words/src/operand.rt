@@ -1,0 +1,228 @@
+ghost use Rattle.std.specs.Prelude.{◌≡◌};
+ghost use Rattle.scr_words.specs.Operands.{command_name, program_name, command_named, program_named, operand_named, table, is_taken};
+
+use crate::settings::Command;
+
+const COMMANDS: [Command; 3] = [Command::Run, Command::Plain, Command::Load];
+
+/// The packet programs, as words name them.
+#[derive(Clone, Copy, Debug, PartialEq, Eq)]
+pub(crate) enum ProgramName {
+    Ddos,
+    Heavy,
+    Bucket,
+    Knock,
+    Conn,
+}
+
+const PROGRAMS: [ProgramName; 5] = [
+    ProgramName::Ddos,
+    ProgramName::Heavy,
+    ProgramName::Bucket,
+    ProgramName::Knock,
+    ProgramName::Conn,
+];
+
+/// What may stand before the first `=` of a word.
+#[derive(Clone, Copy, Debug, PartialEq, Eq)]
+pub(crate) enum Operand {
+    Program,
+    Flows,
+    Cores,
+    History,
+    Drop,
+    Ring,
+    Threads,
+    Start,
+    Frames,
+    Hosts,
+    Threshold,
+    Bytes,
+    Rate,
+    Burst,
+    Ports,
+    Idle,
+}
+
+const OPERANDS: [Operand; 16] = [
+    Operand::Program,
+    Operand::Flows,
+    Operand::Cores,
+    Operand::History,
+    Operand::Drop,
+    Operand::Ring,
+    Operand::Threads,
+    Operand::Start,
+    Operand::Frames,
+    Operand::Hosts,
+    Operand::Threshold,
+    Operand::Bytes,
+    Operand::Rate,
+    Operand::Burst,
+    Operand::Ports,
+    Operand::Idle,
+];
+
+/// Who takes an operand.
+#[derive(Clone, Copy, Debug, PartialEq, Eq)]
+pub(crate) enum Taker {
+    /// Each command.
+    Every,
+    /// The commands that run cores.
+    WithCores,
+    /// The command that makes up a capture.
+    LoadAlone,
+    /// Each command, for one program.
+    Program(ProgramName),
+}
+
+/// What the value of an operand is.
+#[derive(Clone, Copy, Debug, PartialEq, Eq)]
+pub(crate) enum Form {
+    /// The name of a program.
+    OneProgram,
+    /// A number of a range.
+    Number { least: u64, greatest: u64 },
+    /// A drop list.
+    DropList,
+    /// `yes` or `no`.
+    YesNo,
+    /// Three ports, parted by commas.
+    ThreePorts,
+}
+
+/// An operand's line in the table.
+#[derive(Clone, Copy)]
+pub(crate) struct TableLine {
+    pub(crate) name: &'static [u8],
+    pub(crate) taker: Taker,
+    pub(crate) form: Form,
+    /// The value that stands where none is given. A program has none, and the history's depends on the cores.
+    pub(crate) default: &'static [u8],
+}
+
+impl Operand {
+    /// The operand with this name.
+    pub(crate) fn named(name: &[u8]) -> Option<Operand>
+        ensures { result ≡ operand_named name.now }
+    {
+        OPERANDS
+            .iter()
+            .find(|operand| operand.line().name == name)
+            .copied()
+    }
+
+    /// The operand's line in the table.
+    pub(crate) fn line(self) -> TableLine
+        ensures name { result.name.now ≡ (table self).name }
+        ensures taker { result.taker ≡ (table self).taker }
+        ensures form { result.form ≡ (table self).form }
+        ensures default { result.default.now ≡ (table self).default }
+    {
+        let ddos = Taker::Program(ProgramName::Ddos);
+        let heavy = Taker::Program(ProgramName::Heavy);
+        let bucket = Taker::Program(ProgramName::Bucket);
+        let knock = Taker::Program(ProgramName::Knock);
+        let conn = Taker::Program(ProgramName::Conn);
+        match self {
+            Operand::Program => line(b"program", Taker::Every, Form::OneProgram, b""),
+            Operand::Flows => line(b"flows", Taker::Every, number(1, 65_536), b"4096"),
+            Operand::Cores => line(b"cores", Taker::WithCores, number(1, 16), b"1"),
+            Operand::History => line(b"history", Taker::WithCores, number(0, 64), b""),
+            Operand::Drop => line(b"drop", Taker::WithCores, Form::DropList, b""),
+            Operand::Ring => line(b"ring", Taker::WithCores, number(1, 4096), b"1024"),
+            Operand::Threads => line(b"threads", Taker::WithCores, Form::YesNo, b"yes"),
+            Operand::Start => line(b"start", Taker::LoadAlone, number(0, u64::MAX), b"0"),
+            Operand::Frames => line(b"frames", Taker::LoadAlone, number(0, 1_000_000), b"1000"),
+            Operand::Hosts => line(b"hosts", Taker::LoadAlone, number(1, 65_536), b"16"),
+            Operand::Threshold => line(b"threshold", ddos, number(0, 4_294_967_295), b"1000"),
+            Operand::Bytes => line(b"bytes", heavy, number(1, 1_000_000_000_000), b"1000000"),
+            Operand::Rate => line(b"rate", bucket, number(0, 1_000_000_000), b"1000"),
+            Operand::Burst => line(b"burst", bucket, number(1, 1_000_000_000), b"100"),
+            Operand::Ports => line(b"ports", knock, Form::ThreePorts, b"7000,8000,9000"),
+            Operand::Idle => line(b"idle", conn, number(1, 10_000_000_000_000), b"60000000"),
+        }
+    }
+}
+
+fn line(name: &'static [u8], taker: Taker, form: Form, default: &'static [u8]) -> TableLine
+    ensures name { result.name.now ≡ name.now }
+    ensures taker { result.taker ≡ taker }
+    ensures form { result.form ≡ form }
+    ensures default { result.default.now ≡ default.now }
+{
+    TableLine {
+        name,
+        taker,
+        form,
+        default,
+    }
+}
+
+fn number(least: u64, greatest: u64) -> Form
+    ensures { result ≡ Form.Number least greatest }
+{
+    Form::Number { least, greatest }
+}
+
+impl Command {
+    /// The command with this name.
+    #[tactic(auto, unfolding(crate::specs::Operands::command_named))]
+    pub(crate) fn named(name: &[u8]) -> Option<Command>
+        ensures { result ≡ command_named name.now }
+    {
+        COMMANDS
+            .iter()
+            .find(|command| command.name() == name)
+            .copied()
+    }
+
+    fn name(self) -> &'static [u8]
+        ensures { result.now ≡ command_name self }
+    {
+        match self {
+            Command::Run => b"run",
+            Command::Plain => b"plain",
+            Command::Load => b"load",
+        }
+    }
+}
+
+impl ProgramName {
+    /// The program with this name.
+    pub(crate) fn named(name: &[u8]) -> Option<ProgramName>
+        ensures { result ≡ program_named name.now }
+    {
+        PROGRAMS
+            .iter()
+            .find(|program| program.name() == name)
+            .copied()
+    }
+
+    fn name(self) -> &'static [u8]
+        ensures { result.now ≡ program_name self }
+    {
+        match self {
+            ProgramName::Ddos => b"ddos",
+            ProgramName::Heavy => b"heavy",
+            ProgramName::Bucket => b"bucket",
+            ProgramName::Knock => b"knock",
+            ProgramName::Conn => b"conn",
+        }
+    }
+}
+
+impl Taker {
+    /// Whether an operand with this taker is taken beside this command and the chosen program. Where no program is
+    /// chosen, the operands of each are.
+    pub(crate) fn is_met(self, command: Command, chosen: Option<ProgramName>) -> bool
+        ensures { result ≡ is_taken command chosen self }
+    {
+        match self {
+            Taker::Every => true,
+            Taker::WithCores => command != Command::Plain,
+            Taker::LoadAlone => command == Command::Load,
+            Taker::Program(program) => chosen.is_none_or(|other| other == program),
+        }
+    }
+}

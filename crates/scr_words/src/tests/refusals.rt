@@ -1,0 +1,276 @@
+//! Command lines that are refused, each with its refusal.
+
+use super::read;
+use crate::{WordCause, WordFault, WordsError, put_word_line, read_words};
+use scr_base::{Batch, SureSink, Word};
+use scr_plan::DropCause;
+use std::alloc::Global;
+use std::test::Fail;
+
+fn refusal(alloc: Global, line: &str) -> Option<WordFault> {
+    match read(alloc, line) {
+        Err(WordsError::Refused(fault)) => Some(fault),
+        _ => None,
+    }
+}
+
+fn at(word: u32, cause: WordCause) -> Option<WordFault> {
+    Some(WordFault { word, cause })
+}
+
+/// Words, and the line that must come.
+const REFUSED: [(&str, &str); 16] = [
+    ("", "scr: word 1: NoCommand\n"),
+    ("walk", "scr: word 1: Command\n"),
+    ("run", "scr: word 2: Missing\n"),
+    ("run program=dns", "scr: word 2: Program\n"),
+    ("run program=ddos -v", "scr: word 3: NoEquals\n"),
+    ("run program=ddos color=red", "scr: word 3: UnknownName\n"),
+    ("run program=ddos rate=5", "scr: word 3: NotHere\n"),
+    ("plain program=ddos drop=1", "scr: word 3: NotHere\n"),
+    ("run program=ddos cores=2 cores=2", "scr: word 4: Twice\n"),
+    ("run program=ddos threshold=", "scr: word 3: Value\n"),
+    ("run program=knock ports=1,2", "scr: word 3: Value\n"),
+    ("run program=ddos cores=17", "scr: word 3: Range\n"),
+    ("run program=ddos drop=0", "scr: word 3: Drop Zero at 0\n"),
+    (
+        "run program=ddos drop=7-3",
+        "scr: word 3: Drop Range at 0\n",
+    ),
+    (
+        "run program=ddos drop=1,,2",
+        "scr: word 3: Drop Empty at 2\n",
+    ),
+    (
+        "run program=ddos drop=1,2x",
+        "scr: word 3: Drop Digit at 2\n",
+    ),
+];
+
+#[test]
+fn writes_the_line_of_each_refusal(rt: HostRuntime) -> Result<(), Fail> {
+    for (words, line) in REFUSED {
+        let fault = refusal(rt.alloc(), words).ok_or("taken")?;
+        let mut err = SureSink::new(rt.alloc(), 7);
+        let mut batch = Batch::new();
+        put_word_line(&mut batch, &mut err, &fault)?;
+        batch.finish(&mut err)?;
+        assert_eq!(rt; err.written(), line.as_bytes(), "at {words}");
+    }
+    Ok(())
+}
+
+/// Lines with more than one fault, each beside the same with the faults in the other order, or with one of them mended.
+const SEVERAL: [(&str, u32, WordCause); 44] = [
+    // A word without `=` and a name that no operand has.
+    ("run -v color=red", 2, WordCause::NoEquals),
+    ("run color=red -v", 2, WordCause::UnknownName),
+    // A word that is faulty behind a program that is missing.
+    ("run cores=0", 2, WordCause::Range),
+    ("run cores=1 hosts=1", 3, WordCause::NotHere),
+    ("run cores=1", 3, WordCause::Missing),
+    // Twice, and a value out of range: the first faulty word, and of one word the first cause.
+    ("run program=ddos cores=2 cores=17", 4, WordCause::Twice),
+    ("run program=ddos cores=17 cores=2", 3, WordCause::Range),
+    ("run program=ddos cores=x cores=x", 3, WordCause::Value),
+    // Not here, and twice.
+    ("run program=ddos rate=5 rate=5", 3, WordCause::NotHere),
+    ("plain cores=1 cores=1 program=ddos", 2, WordCause::NotHere),
+    ("load start=1 start=1", 3, WordCause::Twice),
+    ("plain start=1 start=1", 2, WordCause::NotHere),
+    // The program is the first that is named, wherever it stands.
+    ("run rate=5 program=ddos", 2, WordCause::NotHere),
+    (
+        "run rate=5 program=bucket program=ddos",
+        4,
+        WordCause::Twice,
+    ),
+    (
+        "run rate=5 program=ddos program=bucket",
+        2,
+        WordCause::NotHere,
+    ),
+    (
+        "run program=bucket program=ddos rate=5",
+        3,
+        WordCause::Twice,
+    ),
+    ("run program=ddos program=ddos", 3, WordCause::Twice),
+    ("run program=ddos program=dns", 3, WordCause::Twice),
+    ("run program=dns program=ddos", 2, WordCause::Program),
+    // A name that isn't one chooses nothing.
+    ("run rate=5 program=dns", 3, WordCause::Program),
+    ("run rate=x program=dns", 2, WordCause::Value),
+    ("run program=dns rate=x", 2, WordCause::Program),
+    ("run program= rate=5", 2, WordCause::Program),
+    (
+        "run rate=5 threshold=6 ports=1,2,3 idle=7 bytes=8",
+        7,
+        WordCause::Missing,
+    ),
+    (
+        "run rate=5 threshold=6 ports=1,2,3 idle=0 bytes=8",
+        5,
+        WordCause::Range,
+    ),
+    // Form before range, in one value and in two.
+    ("run program=knock ports=0,x,1", 3, WordCause::Value),
+    ("run program=knock ports=0,1,1", 3, WordCause::Range),
+    ("run program=knock ports=1,65536,1", 3, WordCause::Range),
+    ("run program=knock ports=1,2,3,4", 3, WordCause::Value),
+    ("run ring=0 flows=x program=ddos", 2, WordCause::Range),
+    ("run flows=x ring=0 program=ddos", 2, WordCause::Value),
+    // Three at once.
+    ("run cores=2 cores=x color rate=1", 3, WordCause::Twice),
+    ("run color cores=2 cores=x rate=1", 2, WordCause::NoEquals),
+    ("walk color cores=17", 1, WordCause::Command),
+    ("run Program=ddos threads=maybe", 2, WordCause::UnknownName),
+    ("run threads=maybe Program=ddos", 2, WordCause::Value),
+    ("run threads=YES", 2, WordCause::Value),
+    ("run threads=", 2, WordCause::Value),
+    // Drop lists, whose pieces have an order of their own.
+    (
+        "run drop=0,x",
+        2,
+        WordCause::Drop {
+            cause: DropCause::Zero,
+            place: 0,
+        },
+    ),
+    (
+        "run drop=1,x,0",
+        2,
+        WordCause::Drop {
+            cause: DropCause::Digit,
+            place: 2,
+        },
+    ),
+    (
+        "run drop=1,x,0 drop=1",
+        2,
+        WordCause::Drop {
+            cause: DropCause::Digit,
+            place: 2,
+        },
+    ),
+    ("run drop=1 drop=x", 3, WordCause::Twice),
+    ("plain drop=x", 2, WordCause::NotHere),
+    (
+        "run drop=1=2",
+        2,
+        WordCause::Drop {
+            cause: DropCause::Digit,
+            place: 0,
+        },
+    ),
+];
+
+#[test]
+fn answers_the_first_fault(rt: HostRuntime) -> Result<(), Fail> {
+    for (words, word, cause) in SEVERAL {
+        assert_eq!(rt; refusal(rt.alloc(), words), at(word, cause), "at {words}");
+    }
+    Ok(())
+}
+
+#[test]
+fn splits_words_at_the_first_equals(rt: HostRuntime) -> Result<(), Fail> {
+    let alloc = rt.alloc();
+    assert_eq!(rt; refusal(alloc, " "), at(1, WordCause::Command));
+    assert_eq!(rt; refusal(alloc, "run "), at(2, WordCause::NoEquals));
+    assert_eq!(rt;
+        refusal(alloc, "run program=ddos  cores=0"),
+        at(3, WordCause::NoEquals)
+    );
+    assert_eq!(rt; refusal(alloc, "run =ddos"), at(2, WordCause::UnknownName));
+    assert_eq!(rt;
+        refusal(alloc, "run program=ddos=x"),
+        at(2, WordCause::Program)
+    );
+    assert_eq!(rt; refusal(alloc, "run cores=1=1"), at(2, WordCause::Value));
+    assert_eq!(rt;
+        refusal(alloc, "run=1 program=ddos"),
+        at(1, WordCause::Command)
+    );
+    Ok(())
+}
+
+/// Numbers at the ends of their ranges and beyond, and long ones.
+const NUMBERS: [(&str, Option<WordCause>); 26] = [
+    ("load program=ddos flows=0", Some(WordCause::Range)),
+    ("load program=ddos flows=65537", Some(WordCause::Range)),
+    ("load program=ddos cores=16", None),
+    (
+        "load program=ddos cores=00000000000000000000000000000000000000001",
+        None,
+    ),
+    (
+        "load program=ddos cores=9999999999999999999999999999999999999999",
+        Some(WordCause::Range),
+    ),
+    (
+        "load program=ddos cores=999999999999999999999999999999999999999x",
+        Some(WordCause::Value),
+    ),
+    ("load program=ddos history=64", None),
+    ("load program=ddos history=65", Some(WordCause::Range)),
+    ("load program=ddos ring=4096", None),
+    ("load program=ddos ring=4097", Some(WordCause::Range)),
+    ("load program=ddos start=18446744073709551615", None),
+    (
+        "load program=ddos start=18446744073709551616",
+        Some(WordCause::Range),
+    ),
+    ("load program=ddos frames=1000000", None),
+    ("load program=ddos frames=1000001", Some(WordCause::Range)),
+    ("load program=ddos hosts=0", Some(WordCause::Range)),
+    ("load program=ddos hosts=65536", None),
+    (
+        "load program=ddos threshold=4294967296",
+        Some(WordCause::Range),
+    ),
+    ("load program=ddos threshold=-1", Some(WordCause::Value)),
+    ("load program=ddos threshold=+1", Some(WordCause::Value)),
+    (
+        "load program=heavy bytes=1000000000001",
+        Some(WordCause::Range),
+    ),
+    (
+        "load program=bucket rate=1000000001",
+        Some(WordCause::Range),
+    ),
+    ("load program=bucket burst=0", Some(WordCause::Range)),
+    ("load program=conn idle=0", Some(WordCause::Range)),
+    (
+        "load program=conn idle=10000000000001",
+        Some(WordCause::Range),
+    ),
+    ("load program=ddos drop=", None),
+    ("load program=ddos threads=no", None),
+];
+
+#[test]
+fn takes_numbers_of_their_ranges(rt: HostRuntime) -> Result<(), Fail> {
+    for (words, cause) in NUMBERS {
+        match cause {
+            Some(cause) => assert_eq!(rt; refusal(rt.alloc(), words), at(3, cause), "at {words}"),
+            None => assert!(rt; read(rt.alloc(), words).is_ok(), "at {words}"),
+        }
+    }
+    Ok(())
+}
+
+#[test]
+fn takes_words_of_any_bytes(rt: HostRuntime) -> Result<(), Fail> {
+    let run = Word::of(rt.alloc(), b"run")?;
+    let words = [run, Word::of(rt.alloc(), &[0xFF, b'=', 0])?];
+    let wanted = WordsError::Refused(WordFault {
+        word: 2,
+        cause: WordCause::UnknownName,
+    });
+    let Err(error) = read_words(rt.alloc(), &words) else {
+        return Err(Fail::from("taken"));
+    };
+    assert_eq!(rt; error, wanted);
+    Ok(())
+}

@@ -1,0 +1,40 @@
+use scr_plan::DropCause;
+
+/// A refused word: its number, from 1, and why.
+#[derive(Clone, Copy, Debug, PartialEq, Eq)]
+pub struct WordFault {
+    pub word: u32,
+    pub cause: WordCause,
+}
+
+/// Why a word is refused.
+#[derive(Clone, Copy, Debug, PartialEq, Eq)]
+pub enum WordCause {
+    /// There is no word.
+    NoCommand,
+    /// The first word is no command.
+    Command,
+    /// The word has no `=`.
+    NoEquals,
+    /// No operand has the name in front of the first `=`.
+    UnknownName,
+    /// The command doesn't take this operand, or it belongs to a program other than the chosen one.
+    NotHere,
+    /// An earlier word has the name.
+    Twice,
+    /// The value is the name of no program.
+    Program,
+    /// The value is not of its form.
+    Value,
+    /// A number is outside its range.
+    Range,
+    /// The drop list is refused.
+    Drop {
+        /// Why its first refused piece is refused.
+        cause: DropCause,
+        /// How many bytes stand before that piece.
+        place: u64,
+    },
+    /// All words are good, and none of them names a program.
+    Missing,
+}

@@ -1,0 +1,82 @@
+ghost use Rattle.std.specs.Prelude.{◌≡◌};
+ghost use Rattle.scr_base.specs.Causes.{HasSinkCause};
+ghost use Rattle.scr_base.specs.Streams.{BatchesText};
+ghost use Rattle.scr_words.specs.WordLines.{word_line, cause_line, drop_cause_name};
+
+use crate::word_fault::{WordCause, WordFault};
+use scr_base::{Batch, Piece, Sink, SinkError};
+use scr_plan::DropCause;
+
+/// Puts the line of a refused word into a batch. At `Err` a front of the line is in the batch and the sink: the sink failed,
+/// or it wanted memory.
+pub fn put_word_line<E: Sink>(
+    batch: &mut Batch,
+    err: &mut E,
+    fault: &WordFault,
+) -> Result<(), SinkError>
+    ensures text { BatchesText (E.written err.old) (E.written err.new) batch.old batch.new result (word_line fault.now) }
+    ensures cause { HasSinkCause E.faults E.wants err.old err.new result }
+{
+    batch.put_pieces(
+        err,
+        &[
+            Piece::Text(b"scr: word "),
+            Piece::Number(u64::from(fault.word)),
+            Piece::Text(b": "),
+        ],
+    )?;
+    put_cause(batch, err, fault.cause)
+}
+
+fn put_cause<E: Sink>(batch: &mut Batch, err: &mut E, cause: WordCause) -> Result<(), SinkError>
+    ensures text { BatchesText (E.written err.old) (E.written err.new) batch.old batch.new result (cause_line cause) }
+    ensures cause { HasSinkCause E.faults E.wants err.old err.new result }
+{
+    match cause {
+        WordCause::NoCommand => batch.put(err, b"NoCommand\n"),
+        WordCause::Command => batch.put(err, b"Command\n"),
+        WordCause::NoEquals => batch.put(err, b"NoEquals\n"),
+        WordCause::UnknownName => batch.put(err, b"UnknownName\n"),
+        WordCause::NotHere => batch.put(err, b"NotHere\n"),
+        WordCause::Twice => batch.put(err, b"Twice\n"),
+        WordCause::Program => batch.put(err, b"Program\n"),
+        WordCause::Value => batch.put(err, b"Value\n"),
+        WordCause::Range => batch.put(err, b"Range\n"),
+        WordCause::Drop { cause, place } => put_drop_cause(batch, err, cause, place),
+        WordCause::Missing => batch.put(err, b"Missing\n"),
+    }
+}
+
+fn put_drop_cause<E: Sink>(
+    batch: &mut Batch,
+    err: &mut E,
+    cause: DropCause,
+    place: u64,
+) -> Result<(), SinkError>
+    ensures text { BatchesText (E.written err.old) (E.written err.new) batch.old batch.new result (cause_line (WordCause.Drop cause place)) }
+    ensures cause { HasSinkCause E.faults E.wants err.old err.new result }
+{
+    batch.put_pieces(
+        err,
+        &[
+            Piece::Text(b"Drop "),
+            Piece::Text(drop_cause_name(cause)),
+            Piece::Text(b" at "),
+            Piece::Number(place),
+            Piece::Text(b"\n"),
+        ],
+    )
+}
+
+fn drop_cause_name(cause: DropCause) -> &'static [u8]
+    ensures { result.now ≡ drop_cause_name cause }
+{
+    match cause {
+        DropCause::Empty => b"Empty",
+        DropCause::Digit => b"Digit",
+        DropCause::Zero => b"Zero",
+        DropCause::TooLarge => b"TooLarge",
+        DropCause::Range => b"Range",
+        DropCause::Pieces => b"Pieces",
+    }
+}
