@@ -1,114 +1,89 @@
-ghost use Rattle.std.specs.Prelude.{◌≡◌, IfOk, IsOk, OnErr};
-ghost use Rattle.scr_program.proofs.Folds.{verdict_after-named};
-ghost use Rattle.scr_bucket.specs.Rows.{fields_kept, row_of};
-ghost use Rattle.scr_bucket.specs.State.{StandsFor as stands_for, IsReady as is_ready};
-ghost use Rattle.scr_bucket.specs.Step.{filled, names, step, taken, verdict_after_rows, count_after_rows};
-ghost use Rattle.scr_bucket.specs.Named.{step-named};
+ghost use Rattle.std.specs.Prelude.{◌≡◌, ◌-◌, nat_le};
+ghost use Rattle.std.proofs.Common.{lit<};
+ghost use Rattle.scr_program.proofs.Choices.{outcome-named};
+ghost use Rattle.scr_program.specs.Keys.{five_tuple_of};
+ghost use Rattle.scr_program.specs.Kinds.{is_packet};
+ghost use Rattle.scr_program.specs.Verdicts.{PASS, DROP, OTHER, pass_drop_other};
+ghost use Rattle.scr_bucket.specs.Rows.{fields_kept};
+ghost use Rattle.scr_bucket.specs.Step.{TOKEN, filled, taken, outcome};
 
 use crate::settings::BucketSettings;
 use crate::tokens::Tokens;
-use scr_base::{OutOfMemory, Row, Verdict};
-use scr_frame::Parsed;
+use scr_base::{OutOfMemory, Verdict};
 use scr_program::{
-    Fields, FiveTuple, FlowTable, Program, ZERO_ROW, fields_of, is_packet, pack, unpack,
+    DROP, Fields, FiveTuple, FlowTable, Keyed, OTHER, PASS, PASS_DROP_OTHER, is_packet,
 };
-use std::alloc::Global;
 
 /// The token bucket.
 #[derive(Clone, Copy, Debug, PartialEq, Eq)]
 pub struct Bucket;
 
-const PASS: Verdict = Verdict(0);
-
-const DROP: Verdict = Verdict(1);
-
-const OTHER: Verdict = Verdict(2);
-
 /// One token, in millionths.
 const TOKEN: u64 = 1_000_000;
 
-impl Program for Bucket {
+impl Keyed for Bucket {
     type Settings = BucketSettings;
 
-    /// The bucket of each flow.
-    type State = FlowTable<FiveTuple, Tokens>;
+    type Key = FiveTuple;
 
-    ghost row_of = { row_of };
+    /// The bucket of a flow.
+    type Entry = Tokens;
 
-    ghost StandsFor = { stands_for };
+    ghost is_looked_at = { is_packet };
 
-    ghost verdict_after = { verdict_after_rows };
+    ghost fields_kept = { fields_kept };
 
-    ghost count_after = { count_after_rows };
+    ghost key_of = { five_tuple_of };
 
-    ghost IsReady = { is_ready };
+    ghost outcome = { outcome };
 
-    ghost verdict_names = { names };
+    ghost other = { OTHER };
 
-    ghost is_named = { λ settings. verdict_after-named (step settings) 3 (step-named settings) };
+    ghost most = { λ settings. settings.flows };
 
-    #[inline(always)]
-    fn extract(settings: &BucketSettings, parsed: &Parsed, time: u64) -> Row {
-        let fields = fields_of(parsed, time);
-        if is_packet(fields.kind) {
-            pack(&kept(&fields))
-        } else {
-            ZERO_ROW
+    ghost names_given = { pass_drop_other };
+
+    ghost outcome_is_named = { λ settings known fields. let tokens = filled settings known fields.time in outcome-named 3 (nat_le TOKEN tokens.held) (record tokens { held = tokens.held - TOKEN }, PASS) (tokens, DROP) (lit< tt) (lit< tt) };
+
+    ghost other_is_named = { lit< tt };
+
+    fn looks_at(kind: u16) -> bool {
+        is_packet(kind)
+    }
+
+    fn kept(fields: &Fields) -> Fields {
+        Fields {
+            flags: 0,
+            length: 0,
+            ..*fields
         }
     }
 
-    fn fresh(alloc: Global, settings: &BucketSettings) -> Result<Self::State, OutOfMemory> {
-        FlowTable::make(alloc, settings.flows)
-    }
-
-    fn prepare(
-        settings: &BucketSettings,
-        state: &mut Self::State,
-        row: &Row,
-    ) -> Result<(), OutOfMemory> {
-        let fields = unpack(row);
-        if is_packet(fields.kind) {
-            state.prepare(FiveTuple::of(&fields))
-        } else {
-            Ok(())
-        }
+    fn key(fields: &Fields) -> FiveTuple {
+        FiveTuple::of(fields)
     }
 
     #[inline(always)]
-    fn step(
+    fn enter(
         settings: &BucketSettings,
-        state: &mut Self::State,
-        row: &Row,
+        table: &mut FlowTable<FiveTuple, Tokens>,
+        flow: &FiveTuple,
+        fields: &Fields,
     ) -> Result<Verdict, OutOfMemory> {
-        take_token(settings, state, row)
+        let time = fields.time;
+        table.update(flow, |known| taken(filled(settings, known, time)))
     }
 
-    fn flows(settings: &BucketSettings, state: &Self::State) -> u64 {
-        u64::from(state.len())
+    fn passed_over() -> Verdict {
+        OTHER
     }
 
-    fn names() -> u8 {
-        3
+    fn most_flows(settings: &BucketSettings) -> u32 {
+        settings.flows
     }
 
-    fn name_of(verdict: Verdict) -> Option<&'static str> {
-        match verdict {
-            PASS => Some("PASS"),
-            DROP => Some("DROP"),
-            OTHER => Some("OTHER"),
-            _ => None,
-        }
-    }
-}
-
-// The fields that the token bucket keeps.
-fn kept(fields: &Fields) -> Fields
-    ensures { result ≡ fields_kept fields.now }
-{
-    Fields {
-        flags: 0,
-        length: 0,
-        ..*fields
+    fn verdicts() -> &'static [&'static str] {
+        &PASS_DROP_OTHER
     }
 }
 
@@ -140,28 +115,4 @@ fn taken(tokens: Tokens) -> (Tokens, Verdict)
     } else {
         (tokens, DROP)
     }
-}
-
-// Takes a token from the bucket of the row's flow, and tells whether there was one.
-#[inline(always)]
-#[tactic(auto, unfolding(crate::specs::Step::step))]
-fn take_token(
-    settings: &BucketSettings,
-    flows: &mut FlowTable<FiveTuple, Tokens>,
-    row: &Row,
-) -> Result<Verdict, OutOfMemory>
-    ensures taken { flows.old.flows ≡ settings.now.flows → IfOk result (λ verdict. step settings.now flows.old.list row.now ≡ (flows.new.list, verdict)) }
-    ensures err { OnErr result (flows.new.list ≡ flows.old.list) }
-    ensures flows { flows.new.flows ≡ flows.old.flows }
-    ensures succeeds { is_ready settings.now flows.old row.now → IsOk result }
-{
-    let fields = unpack(row);
-    if !is_packet(fields.kind) {
-        return Ok(OTHER);
-    }
-    let time = fields.time;
-    let verdict = flows.update(&FiveTuple::of(&fields), |known| {
-        taken(filled(settings, known, time))
-    })?;
-    Ok(verdict)
 }

@@ -1,10 +1,9 @@
 pub mod Endpoints
 pub mod Entries
 pub mod Flags
-pub mod Named
 pub mod Rows
+pub mod Rules
 pub mod Same
-pub mod Stands
 pub mod Step
 pub mod Transitions
 pub mod Verdicts

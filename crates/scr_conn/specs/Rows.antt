@@ -1,19 +1,16 @@
--- The row of a TCP segment for the tracker.
-use Rattle.std.specs.Prelude.{ℕ, Bool, ◌==◌, if◌then◌else◌}
+-- The row of a segment for the tracker, which looks at TCP: both addresses and ports, the protocol, the flags, the family,
+-- the kind of the frame and the time, in their places of the seven words. A frame that isn't looked at has the row of
+-- seven zeros.
+use Rattle.std.specs.Prelude.{ℕ}
 use Rattle.scr_base.specs.declared.row.Row.{Row}
-use Rattle.scr_frame.specs.declared.parsed.Kind.TheVariants.{Tcp}
 use Rattle.scr_frame.specs.declared.parsed.Parsed.{Parsed}
-use Rattle.scr_program.specs.Rows.{frame_fields, kind_number, no_fields, packed, zero_row}
 use Rattle.scr_program.specs.declared.fields.Fields.{Fields}
-use Rattle.scr_conn.specs.declared.settings.ConnSettings.{ConnSettings}
+use Rattle.scr_program.specs.Kinds.{is_tcp}
+use Rattle.scr_program.specs.Rows.{no_fields, row_keeping}
 
--- only TCP is looked at
-abbrev pub is_looked_at : ℕ → Bool
-is_looked_at kind = kind == kind_number Tcp
-
--- the fields in the row of a packet with these fields
-abbrev pub tracked_fields : Fields → Fields
-tracked_fields fields = record no_fields {
+-- the fields that the tracker keeps: the rest is 0
+abbrev pub fields_kept : Fields → Fields
+fields_kept fields = record no_fields {
   source = fields.source;
   destination = fields.destination;
   source_port = fields.source_port;
@@ -24,7 +21,6 @@ tracked_fields fields = record no_fields {
   time = fields.time;
 }
 
-abbrev pub row_of : ConnSettings → Parsed → ℕ → Row
-row_of settings frame time =
-    let fields = frame_fields frame time in
-    if is_looked_at fields.kind then packed (tracked_fields fields) else zero_row
+-- the row of a frame that came at this time
+abbrev pub row_of : Parsed → ℕ → Row
+row_of = row_keeping is_tcp fields_kept

@@ -1,16 +1,13 @@
--- Connections that are the same are one.
-use Rattle.std.specs.Prelude.{◌≡◌, ℕ, Bool, true, false, ◌&&◌, ◌==◌}
+-- Connections that are the same are one. (What shows a law of an `impl` has to stand in its crate's own specs/.)
+use Rattle.std.specs.Prelude.{◌≡◌, ℕ, true, ◌&&◌, ◌==◌}
 use Rattle.std.proofs.Common.{ap, ◌∙◌}
 use Rattle.std.proofs.lemmas.Bool.{eqb-true}
-use Rattle.scr_program.specs.Keys.{is_same_address, address_is_one}
+use Rattle.scr_program.specs.Keys.{is_same_address}
+use Rattle.scr_program.specs.Same.{both, address_is_one}
 use Rattle.scr_program.specs.declared.fields.Address.{Address}
 use Rattle.scr_conn.specs.declared.endpoint.Connection.{Connection}
 use Rattle.scr_conn.specs.declared.endpoint.Endpoint.{Endpoint}
 use Rattle.scr_conn.specs.Endpoints.{is_same_endpoint, is_same_connection}
-
-both : (p q : Bool) → (p && q) ≡ true → (p ≡ true) × (q ≡ true)
-both true q h = (cc, h)
-both false q h = cc
 
 -- endpoints that are the same are one
 pub endpoint_is_one : (a b : Endpoint) → is_same_endpoint a b ≡ true → a ≡ b

@@ -1,4 +1,3 @@
 pub mod Rows
+pub mod Rules
 pub mod Step
-pub mod State
-pub mod Named

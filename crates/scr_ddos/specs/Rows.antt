@@ -1,12 +1,11 @@
 -- The row of a packet for the flood counter, which looks at the source of each IP packet: its address and family, and
 -- the kind of the frame, in their places of the seven words. A frame that isn't looked at has the row of seven zeros.
-use Rattle.std.specs.Prelude.{ℕ, if◌then◌else◌}
+use Rattle.std.specs.Prelude.{ℕ}
 use Rattle.scr_base.specs.declared.row.Row.{Row}
 use Rattle.scr_frame.specs.declared.parsed.Parsed.{Parsed}
 use Rattle.scr_program.specs.declared.fields.Fields.{Fields}
 use Rattle.scr_program.specs.Kinds.{is_packet}
-use Rattle.scr_program.specs.Rows.{frame_fields, no_fields, packed, zero_row}
-use Rattle.scr_ddos.specs.declared.settings.DdosSettings.{DdosSettings}
+use Rattle.scr_program.specs.Rows.{no_fields, row_keeping}
 
 -- the fields that the flood counter keeps: the rest is 0
 abbrev pub fields_kept : Fields → Fields
@@ -17,7 +16,5 @@ fields_kept fields = record no_fields {
 }
 
 -- the row of a frame that came at this time
-abbrev pub row_of : DdosSettings → Parsed → ℕ → Row
-row_of settings frame time =
-    let fields = frame_fields frame time in
-    if is_packet fields.kind then packed (fields_kept fields) else zero_row
+abbrev pub row_of : Parsed → ℕ → Row
+row_of = row_keeping is_packet fields_kept

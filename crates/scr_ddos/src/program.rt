@@ -1,142 +1,95 @@
-ghost use Rattle.std.specs.Prelude.{◌≡◌, IfOk, IsOk, OnErr};
-ghost use Rattle.scr_program.proofs.Folds.{verdict_after-named};
-ghost use Rattle.scr_ddos.specs.Rows.{fields_kept, row_of};
-ghost use Rattle.scr_ddos.specs.State.{StandsFor as stands_for, IsReady as is_ready};
-ghost use Rattle.scr_ddos.specs.Step.{names, step, verdict_after_rows, count_after_rows};
-ghost use Rattle.scr_ddos.specs.Named.{step-named};
+ghost use Rattle.std.specs.Prelude.{nat_lt};
+ghost use Rattle.std.proofs.Common.{lit<};
+ghost use Rattle.scr_program.proofs.Choices.{chosen-named};
+ghost use Rattle.scr_program.specs.Keys.{source_of};
+ghost use Rattle.scr_program.specs.Kinds.{is_packet};
+ghost use Rattle.scr_program.specs.Verdicts.{PASS, DROP, OTHER, pass_drop_other};
+ghost use Rattle.scr_ddos.specs.Rows.{fields_kept};
+ghost use Rattle.scr_ddos.specs.Step.{count_with, outcome};
 
 use crate::settings::DdosSettings;
-use scr_base::{OutOfMemory, Row, Verdict};
-use scr_frame::Parsed;
+use scr_base::{OutOfMemory, Verdict};
 use scr_program::{
-    Address, Fields, FlowTable, Program, ZERO_ROW, fields_of, is_packet, pack, unpack,
+    Address, DROP, Fields, FlowTable, Keyed, OTHER, PASS, PASS_DROP_OTHER, is_packet,
 };
-use std::alloc::Global;
 
 /// The flood counter.
 #[derive(Clone, Copy, Debug, PartialEq, Eq)]
 pub struct Ddos;
 
-const PASS: Verdict = Verdict(0);
-
-const DROP: Verdict = Verdict(1);
-
-const OTHER: Verdict = Verdict(2);
-
-impl Program for Ddos {
+impl Keyed for Ddos {
     type Settings = DdosSettings;
 
-    /// How many packets of each source have come.
-    type State = FlowTable<Address, u64>;
+    type Key = Address;
 
-    ghost row_of = { row_of };
+    /// How many packets of a source have come.
+    type Entry = u64;
 
-    ghost StandsFor = { stands_for };
+    ghost is_looked_at = { is_packet };
 
-    ghost verdict_after = { verdict_after_rows };
+    ghost fields_kept = { fields_kept };
 
-    ghost count_after = { count_after_rows };
+    ghost key_of = { source_of };
 
-    ghost IsReady = { is_ready };
+    ghost outcome = { outcome };
 
-    ghost verdict_names = { names };
+    ghost other = { OTHER };
 
-    ghost is_named = { λ settings. verdict_after-named (step settings) 3 (step-named settings) };
+    ghost most = { λ settings. settings.flows };
 
-    #[inline(always)]
-    fn extract(settings: &DdosSettings, parsed: &Parsed, time: u64) -> Row {
-        let fields = fields_of(parsed, time);
-        if is_packet(fields.kind) {
-            pack(&kept(&fields))
-        } else {
-            ZERO_ROW
+    ghost names_given = { pass_drop_other };
+
+    ghost outcome_is_named = { λ settings known fields. chosen-named 3 (nat_lt settings.threshold (count_with known)) DROP PASS (lit< tt) (lit< tt) };
+
+    ghost other_is_named = { lit< tt };
+
+    fn looks_at(kind: u16) -> bool {
+        is_packet(kind)
+    }
+
+    fn kept(fields: &Fields) -> Fields {
+        Fields {
+            source: fields.source,
+            destination: Address {
+                family: fields.source.family,
+                value: 0,
+            },
+            kind: fields.kind,
+            ..Fields::NONE
         }
     }
 
-    fn fresh(alloc: Global, settings: &DdosSettings) -> Result<Self::State, OutOfMemory> {
-        FlowTable::make(alloc, settings.flows)
-    }
-
-    fn prepare(
-        settings: &DdosSettings,
-        state: &mut Self::State,
-        row: &Row,
-    ) -> Result<(), OutOfMemory> {
-        let fields = unpack(row);
-        if is_packet(fields.kind) {
-            state.prepare(fields.source)
-        } else {
-            Ok(())
-        }
+    fn key(fields: &Fields) -> Address {
+        fields.source
     }
 
     #[inline(always)]
-    fn step(
+    fn enter(
         settings: &DdosSettings,
-        state: &mut Self::State,
-        row: &Row,
+        table: &mut FlowTable<Address, u64>,
+        source: &Address,
+        fields: &Fields,
     ) -> Result<Verdict, OutOfMemory> {
-        count(settings, state, row)
+        let count = table.update(source, |known| {
+            let count = known.unwrap_or(0).saturating_add(1);
+            (count, count)
+        })?;
+        Ok(if settings.threshold < count {
+            DROP
+        } else {
+            PASS
+        })
     }
 
-    fn flows(settings: &DdosSettings, state: &Self::State) -> u64 {
-        u64::from(state.len())
+    fn passed_over() -> Verdict {
+        OTHER
     }
 
-    fn names() -> u8 {
-        3
+    fn most_flows(settings: &DdosSettings) -> u32 {
+        settings.flows
     }
 
-    fn name_of(verdict: Verdict) -> Option<&'static str> {
-        match verdict {
-            PASS => Some("PASS"),
-            DROP => Some("DROP"),
-            OTHER => Some("OTHER"),
-            _ => None,
-        }
+    fn verdicts() -> &'static [&'static str] {
+        &PASS_DROP_OTHER
     }
-}
-
-// The fields that the flood counter keeps.
-fn kept(fields: &Fields) -> Fields
-    ensures { result ≡ fields_kept fields.now }
-{
-    Fields {
-        source: fields.source,
-        destination: Address {
-            family: fields.source.family,
-            value: 0,
-        },
-        kind: fields.kind,
-        ..Fields::NONE
-    }
-}
-
-// Counts one more packet of the row's source, and tells whether it is past the threshold.
-#[inline(always)]
-#[tactic(auto, unfolding(crate::specs::Step::step))]
-fn count(
-    settings: &DdosSettings,
-    flows: &mut FlowTable<Address, u64>,
-    row: &Row,
-) -> Result<Verdict, OutOfMemory>
-    ensures taken { flows.old.flows ≡ settings.now.flows → IfOk result (λ verdict. step settings.now flows.old.list row.now ≡ (flows.new.list, verdict)) }
-    ensures err { OnErr result (flows.new.list ≡ flows.old.list) }
-    ensures flows { flows.new.flows ≡ flows.old.flows }
-    ensures succeeds { is_ready settings.now flows.old row.now → IsOk result }
-{
-    let fields = unpack(row);
-    if !is_packet(fields.kind) {
-        return Ok(OTHER);
-    }
-    let source = fields.source;
-    let count = flows.update(&source, |known| {
-        let count = known.unwrap_or(0).saturating_add(1);
-        (count, count)
-    })?;
-    Ok(if settings.threshold < count {
-        DROP
-    } else {
-        PASS
-    })
 }

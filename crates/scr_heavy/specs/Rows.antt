@@ -1,15 +1,12 @@
--- The row of a packet for the count of heavy flows, which looks at the flow of each IP packet and its length: both addresses
--- and ports, the protocol, the family, the kind of the frame and the length, in their places of the seven words. A frame
--- that isn't looked at has the row of seven zeros.
-use Rattle.std.specs.Prelude.{ℕ, if◌then◌else◌}
+-- The row of a packet for the count of heavy flows, which looks at the flow of each IP packet and its length: both
+-- addresses and ports, the protocol, the family, the kind of the frame and the length, in their places of the seven
+-- words. A frame that isn't looked at has the row of seven zeros.
+use Rattle.std.specs.Prelude.{ℕ}
 use Rattle.scr_base.specs.declared.row.Row.{Row}
 use Rattle.scr_frame.specs.declared.parsed.Parsed.{Parsed}
 use Rattle.scr_program.specs.declared.fields.Fields.{Fields}
-use Rattle.scr_program.specs.declared.key.FiveTuple.{FiveTuple}
-use Rattle.scr_program.specs.Keys.{five_tuple_of}
 use Rattle.scr_program.specs.Kinds.{is_packet}
-use Rattle.scr_program.specs.Rows.{frame_fields, no_fields, packed, unpacked, zero_row}
-use Rattle.scr_heavy.specs.declared.settings.HeavySettings.{HeavySettings}
+use Rattle.scr_program.specs.Rows.{no_fields, row_keeping}
 
 -- the fields that the count of heavy flows keeps: the rest is 0
 abbrev pub fields_kept : Fields → Fields
@@ -24,11 +21,5 @@ fields_kept fields = record no_fields {
 }
 
 -- the row of a frame that came at this time
-abbrev pub row_of : HeavySettings → Parsed → ℕ → Row
-row_of settings frame time =
-    let fields = frame_fields frame time in
-    if is_packet fields.kind then packed (fields_kept fields) else zero_row
-
--- the five-tuple in a row
-abbrev pub flow_in : Row → FiveTuple
-flow_in row = five_tuple_of (unpacked row)
+abbrev pub row_of : Parsed → ℕ → Row
+row_of = row_keeping is_packet fields_kept

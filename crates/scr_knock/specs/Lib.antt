@@ -1,7 +1,5 @@
-pub mod Named
 pub mod Places
 pub mod Ports
 pub mod Rows
-pub mod Stands
+pub mod Rules
 pub mod Step
-pub mod Verdicts

@@ -19,13 +19,13 @@
 //! them.
 #![tactic(auto)]
 
-mod knock;
 mod place;
 mod ports;
+mod program;
 mod settings;
 #[cfg(test)]
 mod tests;
 
-pub use knock::Knock;
 pub use place::Place;
+pub use program::Knock;
 pub use settings::KnockSettings;

@@ -1,5 +1,6 @@
 ghost use Rattle.std.specs.Prelude.{◌≡◌, ◌≢◌, ◌≤◌, OnErr, Ok, Err, MatchResult, codes};
 ghost use Rattle.scr_program.specs.declared.setting.SettingError.TheVariants.{UnknownName};
+ghost use Rattle.scr_program.specs.declared.table.TheConstants.{MOST_FLOWS};
 ghost use Rattle.scr_knock.specs.Ports.{ports_in};
 
 use crate::ports::ports_in;
@@ -20,14 +21,14 @@ pub struct KnockSettings {
     ghost some_second: { 1 ≤ second },
     ghost some_third: { 1 ≤ third },
     ghost some_flows: { 1 ≤ flows },
-    ghost few_flows: { flows ≤ 65536 },
+    ghost few_flows: { flows ≤ MOST_FLOWS },
 }
 
 impl KnockSettings {
     /// The settings where the user chooses no more than the number of flows.
     pub fn new(flows: u32) -> Self
         requires some { 1 ≤ flows }
-        requires few { flows ≤ 65536 }
+        requires few { flows ≤ MOST_FLOWS }
         ensures first { result.first ≡ 7000 }
         ensures second { result.second ≡ 8000 }
         ensures third { result.third ≡ 9000 }

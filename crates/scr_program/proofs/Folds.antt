@@ -31,6 +31,14 @@ module _ {K V : Type 0} (step : List (K × V) → Row → List (K × V) × Verdi
   Stands-fresh (Ok table) is = (ap (λ (t : Table K V). t.flows) is, ap (λ (t : Table K V). t.list) is ∙ sym (flows_after-empty step))
   Stands-fresh (Err e) is = tt
 
+  -- a step that leaves the new list gives the verdict of the row, and the new table stands for one row more
+  module _ (old new : Table K V) (row : Row) (same : new.flows ≡ old.flows) (rows : List Row) (stands : Stands step flows old rows) where
+    pub taken-verdict : (verdict : Verdict) → step old.list row ≡ (new.list, verdict) → verdict ≡ verdict_after step rows row
+    taken-verdict verdict taken = sym (ap (λ (p : List (K × V) × Verdict). p.1) taken) ∙ ap (λ (list : List (K × V)). (step list row).1) stands.1
+
+    pub taken-stands : (verdict : Verdict) → step old.list row ≡ (new.list, verdict) → Stands step flows new (rows ++ row ∷ [])
+    taken-stands verdict taken = (same ∙ stands.0, sym (ap (λ (p : List (K × V) × Verdict). p.0) taken) ∙ ap (λ (list : List (K × V)). (step list row).0) stands.1 ∙ sym (flows_after-push step rows row))
+
   module _ {E : Type 0} (old new : Table K V) (row : Row) (result : Result Verdict E) (same : new.flows ≡ old.flows) (taken : IfOk result (λ verdict. step old.list row ≡ (new.list, verdict))) (rows : List Row) (stands : Stands step flows old rows) where
     abbrev IsTaken : Verdict → Type 0
     IsTaken verdict = step old.list row ≡ (new.list, verdict)
@@ -40,7 +48,7 @@ module _ {K V : Type 0} (step : List (K × V) → Row → List (K × V) × Verdi
     Stands-verdict = at result taken
       where
         at : (r : Result Verdict E) → IfOk r IsTaken → IfOk r (λ verdict. verdict ≡ verdict_after step rows row)
-        at (Ok verdict) is = sym (ap (λ (p : List (K × V) × Verdict). p.1) is) ∙ ap (λ (list : List (K × V)). (step list row).1) stands.1
+        at (Ok verdict) is = taken-verdict old new row same rows stands verdict is
         at (Err e) is = tt
 
     -- the table stands for one row more
@@ -48,5 +56,5 @@ module _ {K V : Type 0} (step : List (K × V) → Row → List (K × V) × Verdi
     Stands-push = at result taken
       where
         at : (r : Result Verdict E) → IfOk r IsTaken → OnOk r (Stands step flows new (rows ++ row ∷ []))
-        at (Ok verdict) is = (same ∙ stands.0, sym (ap (λ (p : List (K × V) × Verdict). p.0) is) ∙ ap (λ (list : List (K × V)). (step list row).0) stands.1 ∙ sym (flows_after-push step rows row))
+        at (Ok verdict) is = taken-stands old new row same rows stands verdict is
         at (Err e) is = tt

@@ -1,3 +1,5 @@
 pub mod Folds
 pub mod Held
 pub mod Kept
+pub mod Choices
+pub mod Entering

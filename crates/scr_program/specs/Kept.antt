@@ -1,8 +1,9 @@
 -- How the cache under a flow table holds the flows.
-use Rattle.std.specs.Prelude.{◌≡◌, ℕ, ◌+◌, ◌<◌, ◌≤◌, ◌^◌, ◌⊎◌, Bool, ◌∷◌, length, Option, Some, None, IfSome, IsSome}
+use Rattle.std.specs.Prelude.{◌≡◌, ℕ, ◌+◌, ◌<◌, ◌≤◌, ◌⊎◌, Bool, ◌∷◌, length, Option, Some, None, IfSome, IsSome}
 use Rattle.std.specs.Map.{lookup}
 use Rattle.lru.specs.LruCache.{LruCache}
 use Rattle.scr_program.specs.FlowTable.{known, held}
+use Rattle.scr_program.specs.declared.table.TheConstants.{MOST_FLOWS}
 
 module _ {K V : Type 0} (same : K → K → Bool) (flows : ℕ) (cache : LruCache K (Option V)) (ready : Option K) where
   -- just the flows are there, and a ready key is one of theirs
@@ -20,7 +21,7 @@ module _ {K V : Type 0} (same : K → K → Bool) (flows : ℕ) (cache : LruCach
     pub absent : lookup (same key) (known cache.entries) ≡ None
 
   pub record IsKept : Type 0 where
-    pub few : flows ≤ 2 ^ 16
+    pub few : flows ≤ MOST_FLOWS
     pub some : 0 < flows
     pub fits : length (known cache.entries) ≤ flows
     pub form : IsPlain ⊎ IsRoomy

@@ -1,9 +1,13 @@
-pub mod Choices
 pub mod Folds
 pub mod FlowList
 pub mod FlowTable
 pub mod Kept
+pub mod Keyed
 pub mod Keys
 pub mod Kinds
+pub mod Named
 pub mod Rows
+pub mod Rules
+pub mod Same
 pub mod Settings
+pub mod Verdicts

@@ -1,5 +1,5 @@
 -- The fields of a packet, and the seven words of its row.
-use Rattle.std.specs.Prelude.{ℕ, ◌+◌, ◌*◌, ◌/◌, ◌%◌, ◌^◌}
+use Rattle.std.specs.Prelude.{ℕ, ◌+◌, ◌*◌, ◌/◌, ◌%◌, ◌^◌, Bool, if◌then◌else◌}
 use Rattle.scr_base.specs.declared.row.Row.{Row}
 use Rattle.scr_frame.specs.declared.parsed.Kind.{Kind}
 use Rattle.scr_frame.specs.declared.parsed.Kind.TheVariants.{Other, Bare, Tcp, Udp}
@@ -58,6 +58,13 @@ packed fields = record {
   w5 = fields.time;
   w6 = fields.length;
 }
+
+-- the row of a frame that came at this time, for a program that looks at packets of these kinds and keeps these of
+-- their fields
+abbrev pub row_keeping : (ℕ → Bool) → (Fields → Fields) → Parsed → ℕ → Row
+row_keeping is_looked_at fields_kept frame time =
+    let fields = frame_fields frame time in
+    if is_looked_at fields.kind then packed (fields_kept fields) else zero_row
 
 -- the kind in a row
 abbrev pub kind_in : Row → ℕ

@@ -2,7 +2,8 @@ ghost use Rattle.std.specs.Prelude.{◌≡◌, true, ◌++◌, ◌+◌, ◌*◌,
 ghost use Rattle.std.proofs.Common.{rules};
 ghost use Rattle.std.specs.Cmp.Rules.{hashing};
 ghost use Rattle.std.specs.Hash as fed;
-ghost use Rattle.scr_program.specs.Keys.{five_tuple_of, address_is_one, tuple_is_one};
+ghost use Rattle.scr_program.specs.Keys.{five_tuple_of};
+ghost use Rattle.scr_program.specs.Same.{address_is_one, tuple_is_one};
 
 use crate::fields::{Address, Fields};
 use std::hash::{Hash, Hasher};

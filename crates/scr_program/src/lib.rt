@@ -25,16 +25,20 @@
 
 mod fields;
 mod key;
+mod keyed;
 mod kinds;
 mod program;
 mod setting;
 mod table;
 #[cfg(test)]
 mod tests;
+mod verdicts;
 
 pub use fields::{Address, Fields, ZERO_ROW, fields_of, pack, unpack};
 pub use key::{FiveTuple, FlowKey};
-pub use kinds::is_packet;
+pub use keyed::Keyed;
+pub use kinds::{has_ports, is_packet, is_tcp, is_udp};
 pub use program::Program;
 pub use setting::{SettingError, read_setting};
-pub use table::FlowTable;
+pub use table::{FlowTable, MOST_FLOWS};
+pub use verdicts::{DROP, OTHER, PASS, PASS_DROP_OTHER};

@@ -1,10 +1,10 @@
-ghost use Rattle.std.specs.Prelude.{◌≡◌, ◌≤◌, ◌⊎◌, ◌+◌, ◌^◌, ◌<◌, ◌∷◌, [], None, length, Some, true, IfOk, OnOk, OnErr, IsOk, IsSome};
+ghost use Rattle.std.specs.Prelude.{◌≡◌, ◌≤◌, ◌⊎◌, ◌+◌, ◌^◌, ◌<◌, ◌∷◌, [], Option, None, length, Some, true, IfOk, OnOk, OnErr, IsOk, IsSome};
 ghost use Rattle.std.specs.List.{IsDistinct};
 ghost use Rattle.std.specs.Option.{option_flatten};
 ghost use Rattle.std.specs.Map.{lookup, keys_of};
 ghost use Rattle.std.specs.NonZero.{non_zero_usize_get};
 ghost use Rattle.lru.specs.LruCache.{lru_cache, put_entries};
-ghost use Rattle.scr_program.specs.FlowList.{set_key};
+ghost use Rattle.scr_program.specs.FlowList.{set_key, entered_list};
 
 use crate::key::FlowKey;
 use lru::LruCache;
@@ -12,6 +12,9 @@ use scr_base::OutOfMemory;
 use std::alloc::Global;
 use std::marker::Model;
 use std::num::NonZeroUsize;
+
+/// The most flows that a table may hold.
+pub const MOST_FLOWS: u32 = 65_536;
 
 /// The flows that were used last: a key and an entry each.
 ///
@@ -43,7 +46,7 @@ impl<K: FlowKey, V: Copy + Drop> FlowTable<K, V> {
     /// An empty table that holds so many flows at most. No key is ready.
     pub fn make(alloc: Global, flows: u32) -> Result<Self, OutOfMemory>
         requires some { 1 ≤ flows }
-        requires few { flows ≤ 2 ^ 16 }
+        requires few { flows ≤ MOST_FLOWS }
         ensures { IfOk result (λ table. table ≡ record { flows = flows; list = []; ready = None }) }
     {
         let flows = NonZeroUsize::new(flows as usize).unwrap();
@@ -130,6 +133,33 @@ impl<K: FlowKey, V: Copy + Drop> FlowTable<K, V> {
             return self.update_beside_ready(*key, next);
         }
         change(&mut self.cache, key, next)
+    }
+
+    /// Gives a key the entry that `next` makes of the one it has, as [`FlowTable::update`] does. Where `next` makes none,
+    /// nothing changes, the order included.
+    ///
+    /// # Errors
+    /// As [`FlowTable::update`] has them.
+    #[inline(always)]
+    pub fn update_where<T: Drop, F: FnOnce(Option<V>) -> (Option<V>, T)>(
+        &mut self,
+        key: &K,
+        next: F,
+    ) -> Result<T, OutOfMemory>
+        requires { F.IsAlwaysCallable next }
+        ensures updated { IfOk result (λ told. (after : Option V) × F.post next (lookup (K.eq key.now) self.old.list) (after, told)
+            × (self.new.list ≡ entered_list K.eq self.old.flows self.old.list key.now after)) }
+        ensures err { OnErr result (self.new.list ≡ self.old.list) }
+        ensures flows { self.new.flows ≡ self.old.flows }
+        ensures known_succeeds { IsSome (lookup (K.eq key.now) self.old.list) → IsOk result }
+        ensures ready_succeeds { self.old.ready ≡ Some key.now → IsOk result }
+    {
+        let (after, told) = next(self.look(key));
+        let Some(entry) = after else {
+            return Ok(told);
+        };
+        self.update(key, |_| (entry, ()))?;
+        Ok(told)
     }
 
     // The same where a key is ready. The room that was made for it is given back.

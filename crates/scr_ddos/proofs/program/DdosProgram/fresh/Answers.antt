@@ -1,7 +1,0 @@
--- A new table stands for no rows.
-use Rattle.scr_program.proofs.Folds.{Stands-fresh}
-use Rattle.scr_ddos.specs.Step.{step}
-use Rattle.scr_ddos.proofs.program.DdosProgram.fresh.Goals as goal
-
-pub returns : goal.returns
-returns c = Stands-fresh (step c.args.settings.now) c.args.settings.now.flows c.make.result c.make.ensures
