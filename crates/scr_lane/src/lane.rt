@@ -66,8 +66,9 @@ impl Lane {
         requires a_core { core < plan.now.cores }
         requires some_room { 1 ≤ capacity }
         requires little_room { capacity ≤ 1024 }
-        ensures send { IfOk result (λ ends. ends.0 ≡ begun (route plan.now core) capacity) }
-        ensures receive { IfOk result (λ ends. ends.1 ≡ begun (route plan.now core) capacity) }
+        ensures one_lane { IfOk result (λ ends. ends.0.lane ≡ ends.1.lane) }
+        ensures send { IfOk result (λ ends. ends.0 ≡ begun ends.0.lane (route plan.now core) capacity) }
+        ensures receive { IfOk result (λ ends. ends.1 ≡ begun ends.1.lane (route plan.now core) capacity) }
     {
         // A plan has few rows, so a lane has few messages.
         let _rows = plan.rows();
