@@ -8,13 +8,13 @@
 //! rows found. Nothing of time is printed.
 #![tactic(auto)]
 
-mod feed;
 mod laned;
 mod logged;
 mod measure;
 mod rows;
 mod sequenced;
 mod stepped;
+mod stop;
 #[cfg(test)]
 mod tests;
 mod traffic;
@@ -22,20 +22,23 @@ mod traffic;
 use laned::lane_received;
 use logged::rows_found;
 use measure::{Measure, asked_for};
-use scr_base::{OutOfMemory, StdSink, put_all, put_decimal};
+use scr_base::{StdSink, put_all, put_decimal};
 use sequenced::bytes_sequenced;
 use std::alloc::Global;
 use std::process::ExitCode;
 use std::sync::Wait;
 use std::thread::Threads;
 use stepped::checksum_of;
+use stop::Stop;
 
 fn main(rt: HostRuntime) -> ExitCode {
     let Some(measure) = asked_for(&rt) else {
         return ExitCode::from(1);
     };
-    let Ok(number) = number_of(&rt, rt.alloc(), measure) else {
-        return ExitCode::from(5);
+    let number = match number_of(&rt, rt.alloc(), measure) {
+        Ok(number) => number,
+        Err(Stop::NoThread) => return ExitCode::from(6),
+        Err(_) => return ExitCode::from(5),
     };
     let mut out = StdSink::output(rt.stdout());
     if put_decimal(&mut out, number).is_err() || put_all(&mut out, b"\n").is_err() {
@@ -49,10 +52,10 @@ fn number_of<R: Threads + Wait + Sync>(
     rt: &R,
     alloc: Global,
     measure: Measure,
-) -> Result<u64, OutOfMemory> {
+) -> Result<u64, Stop> {
     match measure {
-        Measure::Sequencer(length) => bytes_sequenced(alloc, length),
-        Measure::Step(program, load) => checksum_of(alloc, program, load),
+        Measure::Sequencer(length) => Ok(bytes_sequenced(alloc, length)?),
+        Measure::Step(program, load) => Ok(checksum_of(alloc, program, load)?),
         Measure::Lane(frames) => lane_received(rt, alloc, frames),
         Measure::Log(shared) => rows_found(rt, alloc, shared),
     }

@@ -26,7 +26,7 @@ due feed core = if feed.ended then lane feed.plan core else lane_so_far feed.pla
 pub record IsFed (route : Route) (due : List Message) (left : List (List ℕ)) (end : End Route) : Type 0 where
   pub about : end.about ≡ route
   pub sent : end.count ≤ length due
-  pub left : AllZip Spells (drop end.count due) left
+  pub in_order : AllZip Spells (drop end.count due) left
 
 -- what is true of every feed
 pub record IsFeeding (feed : Feeding) : Type 0 where

@@ -1,6 +1,6 @@
 -- What a feed has taken from its sequencer and not sent yet: a message for the lane of every core from one core on, and
 -- then a packet for the lane of one core.
-use Rattle.std.specs.Prelude.{ℕ, List, [], ◌∷◌, ◌++◌, map, Option, nat_le, if◌then◌else◌}
+use Rattle.std.specs.Prelude.{◌≡◌, ℕ, ◌<◌, List, [], ◌∷◌, ◌++◌, map, Option, nat_le, if◌then◌else◌}
 use Rattle.scr_wire.specs.declared.message.Message.{Message}
 use Rattle.scr_wire.specs.declared.message.Message.TheVariants as message
 use Rattle.scr_wire.specs.Spelling.{spelling}
@@ -24,3 +24,7 @@ pub record Left : Type 0 where
 abbrev pub left_for : Left → (core : ℕ) → List (List ℕ)
 left_for left core =
     (if nat_le left.from core then map spelling left.to_all else []) ++ packets_to core left.core left.packet
+
+-- nothing of it is for all cores
+abbrev pub NoneToAll : (cores : ℕ) → Left → Type 0
+NoneToAll cores left = (core : ℕ) → core < cores → left_for left core ≡ packets_to core left.core left.packet

@@ -15,13 +15,13 @@ pub record Changes (how : End Route → End Route → Type 0) (core : ℕ) (old 
   pub within : core < old.plan.cores
   pub end : End Route
   pub ends : new.ends ≡ slice_set old.ends core end
-  pub how : (before : End Route) → how (slice_index_or old.ends core before) end
+  pub change : (before : End Route) → how (slice_index_or old.ends core before) end
 
 -- the next number was taken, or the end behind the last; a packet was sent; the lane whose turn it is was full, by this
 -- call's look, and nothing else has changed; or all was sent before this call, which has done nothing
 abbrev pub StepTells : (old new : Feeding) → Step → Type 0
 StepTells old new Taken =
-    (new.ends ≡ old.ends)
+    (new ≡ record old { taken = new.taken; ended = new.ended; left = new.left })
     × (((new.taken ≡ old.taken + 1) × (new.ended ≡ false))
     ⊎ ((new.taken ≡ old.taken) × (old.ended ≡ false) × (new.ended ≡ true)))
 StepTells old new (Sent core) =

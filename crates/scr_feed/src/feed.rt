@@ -1,4 +1,5 @@
-ghost use Rattle.std.specs.Prelude.{◌≡◌, ◌≤◌, ◌<◌, ◌∷◌, [], map, false, None, IfOk, OnErr, IfSome, IfNone, MatchOption};
+ghost use Rattle.std.specs.Prelude.{◌≡◌, ◌≤◌, ◌<◌, ◌∷◌, [], map, false, None, ◌+◌, IfOk, OnOk, OnErr, IfSome, IfNone, MatchOption};
+ghost use Rattle.scr_plan.specs.Plan.{frame_count};
 ghost use Rattle.scr_wire.specs.Spelling.{spelling};
 ghost use Rattle.scr_feed.specs.Feeding.{Feeding, IsFeeding};
 ghost use Rattle.scr_feed.specs.Left.{NoneToAll};
@@ -114,13 +115,11 @@ impl<'a> Feed<'a> {
         ensures feed { IsFeeding self.new }
     {
         let core = self.from;
-        match offer(rt, &mut self.ends[core as usize], packet) {
-            Ok(()) => {
-                self.from += 1;
-                Step::Sent { core }
-            }
-            Err(_) => Step::Full { core },
+        if offer(rt, &mut self.ends[core as usize], packet).is_err() {
+            return Step::Full { core };
         }
+        self.from += 1;
+        Step::Sent { core }
     }
 
     // Sends the packet for one core, where one is left.
@@ -133,17 +132,21 @@ impl<'a> Feed<'a> {
     {
         let core = self.core;
         let packet = self.packet.take()?;
-        match offer(rt, &mut self.ends[core as usize], packet) {
-            Ok(()) => Some(Step::Sent { core }),
-            Err(back) => {
-                self.packet = Some(back);
-                Some(Step::Full { core })
-            }
+        if let Err(back) = offer(rt, &mut self.ends[core as usize], packet) {
+            self.packet = Some(back);
+            return Some(Step::Full { core });
         }
+        Some(Step::Sent { core })
     }
 
     // Takes what the next number adds.
     fn take_number(&mut self) -> Result<(), OutOfMemory>
+        requires all { NoneToAll self.old.plan.cores self.old.left }
+        requires one { self.old.left.packet ≡ None }
+        requires more { (self.old.taken < frame_count self.old.plan) × (self.old.ended ≡ false) }
+        ensures ok { OnOk result ((self.new ≡ record self.old { taken = self.new.taken; left = self.new.left }) × (self.new.taken ≡ self.old.taken + 1)) }
+        ensures err { OnErr result (self.new ≡ self.old) }
+        ensures feed { IsFeeding self.new }
     {
         let row = self.plan.rows()[self.taken as usize];
         let dropped = self.plan.drops().has(self.taken + 1);
