@@ -2,10 +2,11 @@
 //!
 //! `sequencer HISTORY FRAMES` gives so many rows, made up, to a sequencer of seven cores, and prints how many bytes its
 //! packets have. `step PROGRAM FLOWS PACKETS` lets a program take so many packets, made up, of so many flows in turn, and
-//! prints a checksum of its verdicts. `lane FRAMES` sends the messages of so many frames through a lane, from one thread to
+//! prints a checksum of its verdicts. `lane FRAMES` feeds the messages of so many frames to a lane, from one thread to
 //! another, and prints a checksum of what was received. `log CORES ROWS` lets 2 or 4 cores, each in a thread, publish their
 //! final entries of so many packets and look at each other for those that are lost to them, and prints a checksum of the
-//! rows found. Nothing of time is printed.
+//! rows found. Nothing of time is printed. The status is 1 for other words, 4 where the number can't be written, 5 for want
+//! of memory, and 6 where a thread can't be started.
 #![tactic(auto)]
 
 mod laned;

@@ -31,7 +31,14 @@ first_left (m ∷ due) zero packet rest h = record { message = m; stands = refl;
 first_left (m ∷ due) (suc count) packet rest h =
     let it = first_left due count packet rest h in
     let within = it.within in
-    record { message = it.message; stands = it.stands; spells = it.spells; within = omega arith; left = it.left }
+    let place : suc (count + 1) ≡ suc count + 1 = omega arith in
+    record {
+      message = it.message;
+      stands = it.stands;
+      spells = it.spells;
+      within = omega arith;
+      left = subst (λ (k : ℕ). AllZip Spells (drop k (m ∷ due)) rest) place it.left;
+    }
 
 get_front : (xs ys : List Message) (n : ℕ) (m : Message) → slice_get xs n ≡ Some m → slice_get (xs ++ ys) n ≡ Some m
 get_front [] ys n m is = absurd cc

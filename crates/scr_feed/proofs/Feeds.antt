@@ -12,7 +12,9 @@ use Rattle.scr_wire.specs.Spelling.{IsRow, Spells, spelling}
 use Rattle.scr_wire.specs.Lane.{added, lane, lane_so_far}
 use Rattle.scr_wire.proofs.LaneGrows.{lane_so_far-zero, lane_so_far-suc, lane_front}
 use Rattle.scr_sequencer.specs.declared.outgoing.Outgoing.{Outgoing}
-use Rattle.scr_sequencer.specs.Answers.{Adds, beacons_of, packets_to, sent_to}
+use Rattle.std.proofs.Math.Seq.{drop-nil}
+use Rattle.scr_sequencer.specs.Sequence.{begun as new_sequence}
+use Rattle.scr_sequencer.specs.Answers.{Adds, Follows, beacons_of, packets_to, sent_to}
 use Rattle.scr_sequencer.proofs.WholeLane.{adds_spelled}
 use Rattle.scr_lane.specs.Messages.{Route, route, SpellsMessage}
 use Rattle.scr_lane.specs.Ends.{End, begun}
@@ -135,9 +137,9 @@ one_first cores left packet none below is =
     let own : eqb left.core left.core ≡ true = grind (arith, nat_tests) in
     none left.core below ∙ ap (packets_to left.core left.core) is ∙ ap (λ (b : Bool). cond b (packet ∷ []) []) own
 
-no_packet : (o : Option (List ℕ)) (core its_core : ℕ) → its_core ≢ core → packets_to core its_core o ≡ []
-no_packet None core its_core differ = refl
-no_packet (Some packet) core its_core differ =
+not_its_own : (o : Option (List ℕ)) (core its_core : ℕ) → its_core ≢ core → packets_to core its_core o ≡ []
+not_its_own None core its_core differ = refl
+not_its_own (Some packet) core its_core differ =
     let other : eqb its_core core ≡ false = grind (arith, nat_tests) in
     ap (λ (b : Bool). cond b (packet ∷ []) []) other
 
@@ -169,7 +171,7 @@ sent_to_one f packet end after is none below packet_is stood about count =
     changed f core after (without_packet f.left) is below
     (subst (λ (ps : List (List ℕ)). IsFed (route f.plan core) (due f core) ps after) (sym (none_without f.plan.cores f.left core none below))
     (others_left (route f.plan core) (due f core) packet [] end after fed about count))
-    (λ other within differ. none_without f.plan.cores f.left other none within ∙ sym (none other within ∙ no_packet f.left.packet other core (λ e. differ (sym e))))
+    (λ other within differ. none_without f.plan.cores f.left other none within ∙ sym (none other within ∙ not_its_own f.left.packet other core (λ e. differ (sym e))))
 
 -- ---- what comes next is taken
 
@@ -182,7 +184,7 @@ pub taken : (f g : Feeding) (more : ℕ → List Message) → IsFeeding f → No
 taken f g more is none no_packet plan ends within all_taken grows spelled = record {
   plan = subst IsPlan (sym plan) is.plan;
   within = subst (λ (p : Plan). g.taken ≤ frame_count p) (sym plan) within;
-  all_taken = λ yes. all_taken yes ∙ ap frame_count (sym plan);
+  all_taken = λ over. all_taken over ∙ ap frame_count (sym plan);
   each_core = ap length ends ∙ is.each_core ∙ ap (λ (p : Plan). p.cores) (sym plan);
   fed = λ core d below.
       let below' : core < f.plan.cores = subst (λ (p : Plan). core < p.cores) plan below in
@@ -220,7 +222,8 @@ takes_end f g is none no_packet going last g_is =
     ∙ ap (λ (n : ℕ). lane_so_far f.plan core n ++ message.End n ∷ []) (sym last)
     ∙ ap (λ (b : Bool). cond b (lane f.plan core) (lane_so_far f.plan core f.taken) ++ message.End f.taken ∷ []) (sym going))
     (λ core below. subst (λ (l : Left). AllZip Spells (message.End f.taken ∷ []) (left_for l core)) (sym left_is)
-    (end_spells f.taken (omega arith), tt))
+    (subst (AllZip Spells (message.End f.taken ∷ [])) (sym (left_turn (record { to_all = message.End f.taken ∷ []; from = 0; core = f.left.core; packet = None }) core (omega arith)))
+    (end_spells f.taken (omega arith), tt)))
 
 -- what the next number adds
 pub takes_number : (f g : Feeding) (out : Outgoing) → IsFeeding f → NoneToAll f.plan.cores f.left → f.left.packet ≡ None → f.ended ≡ false
@@ -233,7 +236,7 @@ takes_number f g out is none no_packet going more adds g_is =
     let few = is.plan.few_rows in
     let step : suc f.taken ≡ f.taken + 1 = omega arith in
     taken f g (λ core. added f.plan core (f.taken + 1)) is none no_packet plan (ap (λ (x : Feeding). x.ends) g_is) (omega arith)
-    (λ yes. let both : true ≡ false = sym yes ∙ ended_is in absurd (cc))
+    (λ over. let both : true ≡ false = sym over ∙ ended_is in absurd (cc))
     (λ core.
     ap (λ (x : Feeding). due x core) g_is
     ∙ ap (λ (b : Bool). cond b (lane f.plan core) (lane_so_far f.plan core (f.taken + 1))) going
@@ -242,7 +245,8 @@ takes_number f g out is none no_packet going more adds g_is =
     ∙ ap (λ (k : ℕ). lane_so_far f.plan core f.taken ++ added f.plan core k) step
     ∙ ap (λ (b : Bool). cond b (lane f.plan core) (lane_so_far f.plan core f.taken) ++ added f.plan core (f.taken + 1)) (sym going))
     (λ core below. subst (λ (l : Left). AllZip Spells (added f.plan core (f.taken + 1)) (left_for l core)) (sym (ap (λ (x : Feeding). x.left) g_is))
-    (adds_spelled f.plan core (f.taken + 1) out (omega arith) adds))
+    (subst (AllZip Spells (added f.plan core (f.taken + 1))) (sym (left_turn (record { to_all = beacons_of out.beacon; from = 0; core = out.core; packet = out.packet }) core (omega arith)))
+    (adds_spelled f.plan core (f.taken + 1) out (omega arith) adds)))
 
 -- ---- a new feed
 
@@ -256,7 +260,7 @@ pub fresh : (plan : Plan) (capacity : ℕ) (sends receives : List (End Route)) (
 fresh plan capacity sends receives left is lanes to_all packet = record {
   plan = is;
   within = omega arith;
-  all_taken = λ yes. absurd (cc);
+  all_taken = λ over. absurd (cc);
   each_core = lanes.all_sends;
   fed = λ core d below.
       let end = (lanes.each core d d below).new_send in
@@ -272,3 +276,7 @@ fresh plan capacity sends receives left is lanes to_all packet = record {
             (λ i. ((sym count i, sym (lane_so_far-zero plan core) i), sym nothing i)) tt;
       };
 }
+
+-- a new sequencer was given nothing
+pub follows_none : (plan : Plan) → Follows plan (new_sequence plan.cores plan.history)
+follows_none plan = record { cores = refl; history = refl; taken = omega arith; rows = sym (drop-nil (0 - (plan.history + 1))) }

@@ -16,12 +16,12 @@ same_there (x ∷ xs) zero a b within = refl
 same_there (x ∷ xs) (suc n) a b within = same_there xs n a b (omega arith)
 
 pub on_ok : {X Y : Type 0} (r : Result X Y) (P : Type 0) → is_err r ≡ false → OnOk r P → P
-on_ok (Ok x) P no on = on
-on_ok (Err y) P no on = absurd (cc)
+on_ok (Ok x) P is on = on
+on_ok (Err y) P is on = absurd (cc)
 
 pub on_err : {X Y : Type 0} (r : Result X Y) (P : Type 0) → is_err r ≡ true → OnErr r P → P
-on_err (Ok x) P yes on = absurd (cc)
-on_err (Err y) P yes on = on
+on_err (Ok x) P is on = absurd (cc)
+on_err (Err y) P is on = on
 
 looked_count : (before looked : End Route) → HasLooked before looked → (looked.about ≡ before.about) × (looked.count ≡ before.count)
 looked_count before looked (inl same) = (ap (λ (e : End Route). e.about) same, ap (λ (e : End Route). e.count) same)
@@ -30,8 +30,8 @@ looked_count before looked (inr more) = (ap (λ (e : End Route). e.about) more.1
 -- one packet was sent
 pub sent_one : (before after : End Route) → HasSent before after → (after.about ≡ before.about) × (after.count ≡ before.count + 1)
 sent_one before after sent =
-    let counts = looked_count before sent.0 sent.1.0 in
-    let is = sent.1.1.1 in
+    let counts = looked_count before sent.0 sent.1 in
+    let is = sent.3 in
     (ap (λ (e : End Route). e.about) is ∙ counts.0, ap (λ (e : End Route). e.count) is ∙ ap (λ (k : ℕ). k + 1) counts.1)
 
 -- the end of one lane has changed

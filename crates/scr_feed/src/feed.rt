@@ -9,7 +9,7 @@ ghost use Rattle.scr_feed.specs.Made.{AreLanes};
 use crate::making::make_lanes;
 use crate::offering::offer;
 use crate::step::Step;
-use crate::to_all::{ToAll, packet_to_all};
+use crate::to_all::{ToAll, beacon_to_all, packet_to_all};
 use scr_base::OutOfMemory;
 use scr_lane::{ReceiveEnd, SendEnd};
 use scr_plan::RunPlan;
@@ -98,7 +98,8 @@ impl<'a> Feed<'a> {
 
     // The packet that is still to be sent to the lanes of all cores from one on.
     fn next_to_all(&self) -> Result<Option<Packet>, OutOfMemory>
-        ensures { IfOk result (λ packet. MatchOption packet (NoneToAll self.now.plan.cores self.now.left)
+        ensures feed { IsFeeding self.now }
+        ensures packet { IfOk result (λ packet. MatchOption packet (NoneToAll self.now.plan.cores self.now.left)
             (λ bytes. (self.now.left.from < self.now.plan.cores) × (map spelling self.now.left.to_all ≡ bytes ∷ []))) }
     {
         if self.from as usize >= self.ends.len() {
@@ -151,10 +152,7 @@ impl<'a> Feed<'a> {
         let row = self.plan.rows()[self.taken as usize];
         let dropped = self.plan.drops().has(self.taken + 1);
         let next = self.sequencer.next(row, dropped)?;
-        self.to_all = match next.beacon {
-            Some(number) => ToAll::Beacon { number },
-            None => ToAll::Nothing,
-        };
+        self.to_all = beacon_to_all(next.beacon);
         self.from = 0;
         self.core = next.core;
         self.packet = next.packet;

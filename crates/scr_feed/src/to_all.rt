@@ -1,5 +1,6 @@
 ghost use Rattle.std.specs.Prelude.{◌≡◌, ◌∷◌, [], map, IfOk, MatchOption};
 ghost use Rattle.scr_wire.specs.Spelling.{spelling};
+ghost use Rattle.scr_sequencer.specs.Answers.{beacons_of};
 ghost use Rattle.scr_feed.specs.Left.{messages_of};
 
 use scr_base::OutOfMemory;
@@ -12,6 +13,16 @@ pub enum ToAll {
     Nothing,
     Beacon { number: u32 },
     End { number: u32 },
+}
+
+/// The beacon of this number, where there is one.
+pub fn beacon_to_all(beacon: Option<u32>) -> ToAll
+    ensures { messages_of result ≡ beacons_of beacon }
+{
+    match beacon {
+        Some(number) => ToAll::Beacon { number },
+        None => ToAll::Nothing,
+    }
 }
 
 /// Its packet.

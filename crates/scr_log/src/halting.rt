@@ -57,7 +57,7 @@ impl Logs {
         requires { pass.old.logs ≡ self.now }
         ensures { (value : ℕ) × (pass.new ≡ record pass.old { looks = pass.old.looks ++ Halt value ∷ [] }) × (IsTrue result ↔ (value ≡ 1)) }
     {
-        let value = self.load_halt(&mut pass.seat);
-        value == 1
+        let word = self.load_halt(&mut pass.seat);
+        word == 1
     }
 }

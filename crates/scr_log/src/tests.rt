@@ -11,6 +11,8 @@ use std::test::Fail;
 use std::thread;
 use std::thread::Threads;
 
+mod layout;
+
 // The row of a counter of packets from 10.0.0.1.
 const ROW: Row = Row {
     w0: 0,

@@ -34,6 +34,8 @@ invariant_of-self-2 g c =
           (subst (λ (x : Feeding). map spelling x.left.to_all ≡ c.args.packet ∷ []) (sym c.self.view_is) c.requires.packet)
           c.index_mut.ensures.value one.0 one.1,
       c.self.invariant.1,
+      c.self.invariant.2,
+      c.self.invariant.3,
     )
 
 pub returns-clause-tells : goal.returns-clause-tells

@@ -12,7 +12,7 @@ offer-requires g c =
     let f : Feeding = record { plan = s.plan.now; taken = s.taken; ended = s.ended; ends = s.ends.items; left = record { to_all = messages_of s.to_all; from = s.from; core = s.core; packet = s.packet } } in
     next_to_one f c.in_ok-packet.packet c.index_mut.result.now c.self.invariant.0
     (subst (λ (x : Feeding). NoneToAll x.plan.cores x.left) (sym c.self.view_is) c.requires)
-    c.self.invariant.1.1.1 (sym c.take.ensures.value ∙ c.in_ok-packet.was) c.index_mut.ensures.value
+    c.self.invariant.3 (sym c.take.ensures.value ∙ c.in_ok-packet.was) c.index_mut.ensures.value
 
 pub returns-in-Err-clause-tells : goal.returns-in-Err-clause-tells
 returns-in-Err-clause-tells g c =
@@ -22,7 +22,7 @@ returns-in-Err-clause-tells g c =
     let packet : Some c.in-Err.back ≡ s.packet = ap Some back ∙ sym (sym c.take.ensures.value ∙ c.in_ok-packet.was) in
     full_tells f _ s.core c.index_mut.result.now c.offer.new.end _ c.self.view_is c.self.invariant.0
     (ap (λ (o : Option (List ℕ)). record f.left { packet = o }) packet)
-    c.self.invariant.1.1.1 c.index_mut.ensures.value
+    c.self.invariant.3 c.index_mut.ensures.value
     (subst (λ r. OnErr r _) c.in-Err.is c.offer.ensures.full)
 
 pub invariant_of-self-in_default : goal.invariant_of-self-in_default
@@ -33,8 +33,10 @@ invariant_of-self-in_default g c =
       subst (λ (o : Option (List ℕ)). IsFeeding (record f { ends = set f.ends s.core c.offer.new.end; left = record f.left { packet = o } })) (sym c.take.ensures.after)
           (sent_to_one f c.in_ok-packet.packet c.index_mut.result.now c.offer.new.end c.self.invariant.0
           (subst (λ (x : Feeding). NoneToAll x.plan.cores x.left) (sym c.self.view_is) c.requires)
-          c.self.invariant.1.1.1 (sym c.take.ensures.value ∙ c.in_ok-packet.was) c.index_mut.ensures.value one.0 one.1),
+          c.self.invariant.3 (sym c.take.ensures.value ∙ c.in_ok-packet.was) c.index_mut.ensures.value one.0 one.1),
       c.self.invariant.1,
+      c.self.invariant.2,
+      c.self.invariant.3,
     )
 
 pub returns-clause-tells : goal.returns-clause-tells
@@ -42,7 +44,7 @@ returns-clause-tells g c =
     let s = c.self.inside in
     let f : Feeding = record { plan = s.plan.now; taken = s.taken; ended = s.ended; ends = s.ends.items; left = record { to_all = messages_of s.to_all; from = s.from; core = s.core; packet = s.packet } } in
     sent_tells f _ s.core c.index_mut.result.now c.offer.new.end (record f.left { packet = c.take.new.self }) c.self.view_is c.self.invariant.0
-    c.self.invariant.1.1.1 c.index_mut.ensures.value c.in_default.ensures.sent
+    c.self.invariant.3 c.index_mut.ensures.value c.in_default.ensures.sent
 
 pub returns-clause-feed : goal.returns-clause-feed
 returns-clause-feed g c = (invariant_of-self-in_default g c).0
