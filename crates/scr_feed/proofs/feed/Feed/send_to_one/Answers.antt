@@ -18,12 +18,11 @@ pub returns-in-Err-clause-tells : goal.returns-in-Err-clause-tells
 returns-in-Err-clause-tells g c =
     let s = c.self.inside in
     let f : Feeding = record { plan = s.plan.now; taken = s.taken; ended = s.ended; ends = s.ends.items; left = record { to_all = messages_of s.to_all; from = s.from; core = s.core; packet = s.packet } } in
-    let back = subst (λ r. IfErr r (λ x. x ≡ c.in_ok-packet.packet)) c.in-Err.is c.offer.ensures.back in
-    let packet : Some c.in-Err.back ≡ s.packet = ap Some back ∙ sym (sym c.take.ensures.value ∙ c.in_ok-packet.was) in
+    let packet : Some c.in-Err.back ≡ s.packet = ap Some c.in-Err.ensures.back ∙ sym (sym c.take.ensures.value ∙ c.in_ok-packet.was) in
     full_tells f _ s.core c.index_mut.result.now c.offer.new.end _ c.self.view_is c.self.invariant.0
     (ap (λ (o : Option (List ℕ)). record f.left { packet = o }) packet)
     c.self.invariant.3 c.index_mut.ensures.value
-    (subst (λ r. OnErr r _) c.in-Err.is c.offer.ensures.full)
+    c.in-Err.ensures.full
 
 pub invariant_of-self-in_default : goal.invariant_of-self-in_default
 invariant_of-self-in_default g c =
