@@ -39,7 +39,7 @@ AreRead-from (piece ∷ pieces) before place none =
     let rest = AreRead-from pieces (before + 1) (place + (length piece + 1)) rest_none in
     let more : length (range ∷ rest.ranges) ≡ suc (length rest.ranges) = refl in
     let each : (i : ℕ) (d : DropRange) → i < length (range ∷ rest.ranges)
-        → piece_read (before + i) (get_or (piece ∷ pieces) i []) ≡ Ok (get_or (range ∷ rest.ranges) i d) =
+    → piece_read (before + i) (get_or (piece ∷ pieces) i []) ≡ Ok (get_or (range ∷ rest.ranges) i d) =
     (λ i d below. AreRead-each piece pieces before range rest read i d below) in
     record { ranges = range ∷ rest.ranges; count = ap suc rest.count; each = each }
   where
@@ -59,13 +59,15 @@ pub Spells-some : (text : List ℕ) → drop_list_fault text ≡ None → (range
 unfolding drop_list_fault
 Spells-some [] none = ([], refl)
 Spells-some (byte ∷ text) none =
-    let read = AreRead-from (pieces_of (byte ∷ text)) 0 0 none in
-    (read.ranges, record {
-      count = read.count;
-      each = λ i d below.
-          let same : 0 + i ≡ i = omega arith in
-          ap (λ (n : ℕ). piece_read n (get_or (pieces_of (byte ∷ text)) i [])) (sym same) ∙ read.each i d below;
-    })
+    let read = AreRead-from (pieces_of (byte ∷ text)) 0 0 none in (
+      read.ranges,
+      record {
+        count = read.count;
+        each = λ i d below.
+            let same : 0 + i ≡ i = omega arith in
+            ap (λ (n : ℕ). piece_read n (get_or (pieces_of (byte ∷ text)) i [])) (sym same) ∙ read.each i d below;
+      },
+    )
 
 -- a number without a fault is within its range
 inside : (number below above : Bool) (n : ℕ) → setting_fault (cond (not number) (Err Value) (cond (below || above) (Err Range) (Ok n))) ≡ None
