@@ -23,6 +23,8 @@ mod feed;
 mod making;
 mod offering;
 mod step;
+#[cfg(test)]
+mod tests;
 mod to_all;
 
 pub use feed::Feed;
