@@ -240,9 +240,15 @@ fn no_entry_changes_nothing(rt: HostRuntime) -> Result<(), OutOfMemory> {
     table.set(SECOND, 2)?;
     assert_eq!(rt; table.update_where(&FIRST, |known| (None, known))?, Some(1));
     assert_eq!(rt; table.update_where(&FIRST_V6, |known| (None, known))?, None);
-    assert_eq!(rt; table.update_where(&FIRST_V6, |known| (Some(3), known))?, None);
+    assert_eq!(rt;
+        table.update_where(&FIRST_V6, |known| (Some(3), known))?,
+        None
+    );
     assert_eq!(rt; (table.look(&FIRST), table.look(&SECOND)), (None, Some(2)));
-    assert_eq!(rt; table.update_where(&FIRST_V6, |known| (Some(4), known))?, Some(3));
+    assert_eq!(rt;
+        table.update_where(&FIRST_V6, |known| (Some(4), known))?,
+        Some(3)
+    );
     assert_eq!(rt; table.look(&FIRST_V6), Some(4));
     Ok(())
 }

@@ -46,6 +46,6 @@ returns-clause-updated g c =
     let resized = c.resize.ensures ∙ ap (λ (cache : LruCache g.row.K.Denot (Option g.row.V.Denot)). lru_cache (take flows cache.entries) flows) put.2 in
     let set = set-known g.met.K.Eq.laws g.met.K.FlowKey.is_one _ _ _ c.self.invariant c.args.key.now other put.0 c.resize.new.self resized in
     let was : option_flatten (lookup (g.K.PartialEq.eq c.args.key.now) c.self.inside.cache.entries) ≡ lookup (g.K.PartialEq.eq c.args.key.now) c.args.self.now.list =
-        look-kept g.K.PartialEq.eq g.met.K.FlowKey.is_one c.args.key.now _ _ _ c.self.invariant ∙ ap (λ (pairs : List (g.row.K.Denot × g.row.V.Denot)). lookup (g.K.PartialEq.eq c.args.key.now) pairs) list in
+    look-kept g.K.PartialEq.eq g.met.K.FlowKey.is_one c.args.key.now _ _ _ c.self.invariant ∙ ap (λ (pairs : List (g.row.K.Denot × g.row.V.Denot)). lookup (g.K.PartialEq.eq c.args.key.now) pairs) list in
     let called = subst (λ (entry : Option g.row.V.Denot). g.F.FnOnce.post c.args.next (entry, tt) (put.0, c.in_ok-told.told)) was put.1 in
     (put.0, called, rw (← most, ← list) set)
