@@ -1,8 +1,10 @@
 //! What sends the messages of a plan to the lane of one core, where a frame carries its own packet alone.
 ghost use Rattle.std.specs.Prelude.{◌≡◌, ◌+◌, ◌<◌, ◌≤◌, true, false, length, MatchOption, IfOk};
-ghost use Rattle.scr_plan.specs.Plan.{delivers_to, frame_count};
+ghost use Rattle.scr_plan.specs.Plan.{frame_count};
+ghost use Rattle.scr_plan.specs.Delivered.{delivers_to};
 ghost use Rattle.scr_wire.specs.declared.message.Message.TheVariants.{Beacon, End};
-ghost use Rattle.scr_wire.specs.Lane.{frame, has_beacon, lane_so_far};
+ghost use Rattle.scr_plan.specs.Order.{has_beacon};
+ghost use Rattle.scr_wire.specs.Lane.{frame, lane_so_far};
 ghost use Rattle.scr_wire.specs.Spelling.{Spells};
 ghost use Rattle.scr_lane.specs.Ends.{IsSameLane};
 ghost use Rattle.scr_lane.specs.Messages.{route, SpellsMessage};
@@ -56,7 +58,7 @@ fn frame_packet(alloc: Global, plan: &RunPlan, n: u32) -> Result<Packet, OutOfMe
 }
 
 // Whether frame n goes to this core.
-#[tactic(auto, unfolding(scr_plan::specs::Delivered::delivered_to, scr_plan::specs::Delivered::delivered))]
+#[tactic(auto, unfolding(scr_plan::specs::Delivered::delivers_to, scr_plan::specs::Delivered::delivers))]
 fn goes_to(plan: &RunPlan, core: u32, n: u32) -> bool
     requires first { 1 ≤ n }
     requires last { n ≤ frame_count plan.now }

@@ -5,10 +5,12 @@ use Rattle.std.proofs.Common.{◌≡◌, ℕ, suc, ◌+◌, ◌-◌, ◌<◌, Bo
 use Rattle.std.specs.Prelude.{Some}
 use Rattle.std.specs.List.{slice_get}
 use Rattle.std.proofs.lemmas.List.{length-append}
-use Rattle.scr_plan.specs.Plan.{Plan, frame_count, delivers_to}
+use Rattle.scr_plan.specs.Plan.{Plan, frame_count}
+use Rattle.scr_plan.specs.Delivered.{delivers_to}
 use Rattle.scr_wire.specs.declared.message.Message.{Message}
 use Rattle.scr_wire.specs.declared.message.Message.TheVariants.{Beacon, End}
-use Rattle.scr_wire.specs.Lane.{frame, has_beacon, beacon_before, frame_to, lane_so_far, lane}
+use Rattle.scr_plan.specs.Order.{has_beacon}
+use Rattle.scr_wire.specs.Lane.{frame, beacon_before, frame_to, lane_so_far, lane}
 use Rattle.scr_wire.specs.Spelling.{Spells}
 use Rattle.scr_wire.proofs.LaneGrows.{lane_so_far-zero, lane_so_far-suc, lane_front, length-beacon_before, length-frame_to}
 use Rattle.scr_lane.specs.Messages.{route, SpellsMessage}

@@ -1,9 +1,11 @@
 -- How many messages a lane has.
 use Rattle.std.proofs.Common.{◌≡◌, ℕ, zero, suc, ◌+◌, ◌*◌, ◌≤◌, Bool, true, false, cond, List, ◌++◌, length, sym, ap, ◌∙◌, subst, arith}
 use Rattle.std.proofs.lemmas.List.{length-append}
-use Rattle.scr_plan.specs.Plan.{Plan, IsPlan, frame_count, delivers_to}
+use Rattle.scr_plan.specs.Plan.{Plan, IsPlan, frame_count}
+use Rattle.scr_plan.specs.Delivered.{delivers_to}
 use Rattle.scr_wire.specs.declared.message.Message.{Message}
-use Rattle.scr_wire.specs.Lane.{has_beacon, beacon_before, frame_to, lane_so_far, lane}
+use Rattle.scr_plan.specs.Order.{has_beacon}
+use Rattle.scr_wire.specs.Lane.{beacon_before, frame_to, lane_so_far, lane}
 use Rattle.scr_wire.proofs.LaneGrows.{lane_so_far-zero, lane_so_far-suc, length-beacon_before, length-frame_to, length-lane}
 
 at_most_one : (b : Bool) → cond b 1 0 ≤ 1

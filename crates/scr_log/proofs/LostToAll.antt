@@ -6,7 +6,8 @@ use Rattle.std.proofs.lemmas.Option.{slice_get_cases}
 use Rattle.std.proofs.lemmas.Bool.{false_from_ne_true}
 use Rattle.scr_base.specs.declared.row.Row.{Row}
 use Rattle.scr_plan.specs.Delivered.{core_number}
-use Rattle.scr_plan.specs.Plan.{Plan, frame_count, row_of, carries_to, keeps}
+use Rattle.scr_plan.specs.Plan.{Plan, frame_count, row_of}
+use Rattle.scr_plan.specs.Kept.{carries_to, keeps}
 use Rattle.scr_plan.specs.FinalEntry.{final_entry}
 use Rattle.scr_plan.proofs.Packets.{Decides-kept, Decides-carried}
 
@@ -31,11 +32,11 @@ a_row plan p from to none = ⊎_elim
 pub lost_to_all : (plan : Plan) (p : ℕ) → 1 ≤ plan.cores → 1 ≤ p → ((j : ℕ) → j < plan.cores → final_entry plan j p ≡ None)
     → keeps plan p ≡ false
 lost_to_all plan p some from lost = false_from_ne_true (keeps plan p) (λ kept.
-    let is = (Decides-kept plan.drops plan.history (frame_count plan) p).0 kept in
+    let is = (Decides-kept plan p).0 kept in
     let core : ℕ = core_number plan.cores is.frame in
     let below : core < plan.cores = omega arith in
     let carried : carries_to plan core p ≡ true =
-    (Decides-carried plan.drops plan.cores plan.history (frame_count plan) core p).1
+    (Decides-carried plan core p).1
     (record { frame = is.frame; is_delivered = record { is = is.is_delivered; its_core = refl }; carries_it = is.carries_it }) in
     let within = is.is_delivered.to in
     let reaches = is.carries_it.to in

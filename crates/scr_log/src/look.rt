@@ -1,6 +1,6 @@
 ghost use Rattle.std.specs.Prelude.{◌≡◌, ◌≢◌, ◌<◌, ◌+◌, ◌-◌, ℕ, false};
 ghost use Rattle.scr_base.specs.declared.row.Row as rows;
-ghost use Rattle.scr_plan.specs.Plan.{keeps};
+ghost use Rattle.scr_plan.specs.Kept.{keeps};
 ghost use Rattle.scr_plan.specs.FinalEntry.{final_entry};
 ghost use Rattle.scr_log.specs.Layout.{place, tag_offset};
 ghost use Rattle.scr_log.specs.Entries.{row_word};

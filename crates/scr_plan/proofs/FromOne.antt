@@ -1,7 +1,10 @@
 -- The numbers from 1 on: a test of some of them, and a count over them.
 use Rattle.std.proofs.Common.{◌≡◌, ℕ, suc, zero, ◌+◌, ◌-◌, ◌<◌, ◌≤◌, List, [], ◌∷◌, ◌++◌, length, get_or, Bool, true, false, cond, ◌&&◌, ◌||◌, not, arith, refl, sym, ap, ◌∙◌}
-use Rattle.std.specs.List.{list_any, range_with_len, count_by}
+use Rattle.std.specs.List.{list_any, range_with_len, count_by, flat_map}
 use Rattle.std.proofs.lemmas.List.Folds.{Any-from_list_any, list_any_at, list_any-append}
+use Rattle.std.proofs.lemmas.List.{append-nil}
+use Rattle.std.proofs.lemmas.List.Concat.{flat_map-cons}
+use Rattle.std.proofs.lemmas.Grind.{flat_map-append}
 use Rattle.std.proofs.lemmas.List.FromFn.{length-range_with_len, get_or-range_with_len}
 use Rattle.std.proofs.lemmas.List.Sums.{sum_by-append, sum_by-cons}
 use Rattle.std.proofs.lemmas.Bool.Decides.{nat_tests}
@@ -41,6 +44,26 @@ range-suc a zero = let e : a ≡ a + 0 = omega arith in ap (λ (x : ℕ). x ∷ 
 range-suc a (suc n) =
     let e : (a + 1) + n ≡ a + suc n = omega arith in
     ap (λ (xs : List ℕ). a ∷ xs) (range-suc (a + 1) n ∙ ap (λ (x : ℕ). range_with_len (a + 1) n ++ x ∷ []) e)
+
+-- k numbers more
+pub range-append : (a n k : ℕ) → range_with_len a (n + k) ≡ range_with_len a n ++ range_with_len (a + n) k
+range-append a zero k =
+    let count : 0 + k ≡ k = omega arith in
+    let from : a ≡ a + 0 = omega arith in
+    ap (range_with_len a) count ∙ ap (λ (x : ℕ). range_with_len x k) from
+range-append a (suc n) k =
+    let count : suc n + k ≡ suc (n + k) = omega arith in
+    let from : (a + 1) + n ≡ a + suc n = omega arith in
+    ap (range_with_len a) count
+    ∙ ap (λ (x : List ℕ). a ∷ x) (range-append (a + 1) n k)
+    ∙ ap (λ (x : ℕ). a ∷ (range_with_len (a + 1) n ++ range_with_len x k)) from
+
+pub lists-suc : {X : Type 0} (f : ℕ → List X) (n : ℕ) → flat_map f (range_with_len 1 (suc n)) ≡ flat_map f (range_with_len 1 n) ++ f (suc n)
+lists-suc f n =
+    let one : 1 + n ≡ suc n = omega arith in
+    ap (flat_map f) (range-suc 1 n)
+    ∙ flat_map-append f (range_with_len 1 n) ((1 + n) ∷ [])
+    ∙ ap (λ (x : List _). flat_map f (range_with_len 1 n) ++ x) (flat_map-cons f (1 + n) [] ∙ append-nil (f (1 + n)) ∙ ap f one)
 
 pub any-suc : (test : ℕ → Bool) (m : ℕ) → list_any test (range_with_len 1 (suc m)) ≡ (list_any test (range_with_len 1 m) || test (suc m))
 any-suc test m =

@@ -1,5 +1,8 @@
 pub mod FromOne
+pub mod Delivering
+pub mod OrderGrows
 pub mod Packets
+pub mod Lost
 pub mod Tallies
 pub mod Totals
 pub mod Cuts

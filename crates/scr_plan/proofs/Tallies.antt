@@ -5,6 +5,8 @@ use Rattle.std.proofs.lemmas.Bool.{false_from_ne_true, cases_lt}
 use Rattle.std.proofs.lemmas.Bool.Decides.{nat_tests}
 use Rattle.scr_plan.specs.Kept.{Carries, carries, some_carries, first_carried}
 use Rattle.scr_plan.specs.declared.counting.Tally.{Tally}
+use Rattle.scr_plan.specs.Plan.{Plan}
+use Rattle.scr_plan.specs.Delivered.{delivers, delivers_to}
 use Rattle.scr_plan.proofs.FromOne.{IsSome-from_any, any-from_IsSome, any-suc, count-suc, count-gap}
 use Rattle.scr_plan.proofs.Packets.{Decides-carries}
 
@@ -203,3 +205,8 @@ IsTally-counts_at test history f tally next from passes is frames packets last =
 pub IsTally-same : (test : ℕ → Bool) (history m : ℕ) (tally other : Tally) → tally ≡ other → IsTally test history m other
     → IsTally test history m tally
 IsTally-same test history m tally other same is = subst (λ (it : Tally). IsTally test history m it) (sym same) is
+
+-- the tally of a core's frames, and that of all
+pub record AreTallies (plan : Plan) (core history m : ℕ) (own all : Tally) : Type 0 where
+  pub of_own : IsTally (λ n. delivers_to plan core n) history m own
+  pub of_all : IsTally (λ n. delivers plan n) history m all

@@ -1,7 +1,9 @@
+pub mod Limits
 pub mod Drops
 pub mod Spelling
+pub mod Plan
 pub mod Delivered
+pub mod Order
 pub mod Kept
 pub mod Counts
-pub mod Plan
 pub mod FinalEntry

@@ -1,6 +1,8 @@
 ghost use Rattle.std.specs.Prelude.{◌≡◌, ◌≤◌};
+ghost use Rattle.scr_plan.specs.Limits.{most_packets, longest_history};
+ghost use Rattle.scr_plan.specs.Plan.{Plan, HasParts};
 ghost use Rattle.scr_plan.specs.Delivered.{core_number};
-ghost use Rattle.scr_plan.specs.Kept.{first_carried, kept};
+ghost use Rattle.scr_plan.specs.Kept.{first_carried, keeps};
 
 use crate::drops::Drops;
 
@@ -25,9 +27,9 @@ pub fn carried_from(n: u32, h: u32) -> u32
 pub fn kept(drops: &Drops, p: u32, h: u32, t: u32) -> bool
     requires a_packet { 1 ≤ p }
     requires of_the_run { p ≤ t }
-    requires short_history { h ≤ 64 }
-    requires few_frames { t ≤ 1000000 }
-    ensures { result ≡ kept drops.now h t p }
+    requires short_history { h ≤ longest_history }
+    requires few_frames { t ≤ most_packets }
+    ensures { (plan : Plan) → HasParts plan drops.now h t → result ≡ keeps plan p }
 {
     let last = t.min(p + h);
     for frame in p..=last {

@@ -1,6 +1,8 @@
 ghost use Rattle.std.specs.Prelude.{◌≡◌, ◌+◌, ◌-◌, ◌≤◌, ◌<◌, max};
+ghost use Rattle.scr_plan.specs.Limits.{most_packets, most_cores, longest_history};
+ghost use Rattle.scr_plan.specs.Plan.{Plan, HasParts};
 ghost use Rattle.scr_plan.specs.Kept.{first_carried};
-ghost use Rattle.scr_plan.specs.Counts.{counts_of};
+ghost use Rattle.scr_plan.specs.Counts.{plan_counts};
 
 use crate::carrying::{carried_from, core_of};
 use crate::drops::Drops;
@@ -47,11 +49,11 @@ impl Tally {
 /// The counts of a core among k cores, over t frames, at a history of h packets.
 pub fn counts(drops: &Drops, k: u32, h: u32, t: u32, core: u32) -> CoreCounts
     requires a_core { 1 ≤ k }
-    requires few_cores { k ≤ 16 }
-    requires short_history { h ≤ 64 }
-    requires few_frames { t ≤ 1000000 }
+    requires few_cores { k ≤ most_cores }
+    requires short_history { h ≤ longest_history }
+    requires few_frames { t ≤ most_packets }
     requires of_the_cores { core < k }
-    ensures { result ≡ counts_of drops.now k h t core }
+    ensures { (plan : Plan) → HasParts plan drops.now h t → plan.cores ≡ k → result ≡ plan_counts plan core }
 {
     let none = Tally {
         frames: 0,

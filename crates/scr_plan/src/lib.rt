@@ -26,6 +26,7 @@ mod carrying;
 mod counting;
 mod drops;
 mod given;
+mod laws;
 mod plan;
 mod reading;
 #[cfg(test)]
@@ -35,5 +36,6 @@ pub use carrying::{carried_from, core_of, kept};
 pub use counting::{CoreCounts, counts};
 pub use drops::{DropRange, Drops};
 pub use given::Given;
+pub use laws::lost_to_all;
 pub use plan::RunPlan;
 pub use reading::{DropCause, DropError};

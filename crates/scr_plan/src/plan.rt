@@ -1,5 +1,7 @@
 ghost use Rattle.std.specs.Prelude.{◌≡◌, ◌≤◌, length};
-ghost use Rattle.scr_plan.specs.Plan.{Plan, IsPlan, carries_to};
+ghost use Rattle.scr_plan.specs.Limits.{most_packets, most_cores, longest_history};
+ghost use Rattle.scr_plan.specs.Plan.{Plan, IsPlan};
+ghost use Rattle.scr_plan.specs.Kept.{carries_to};
 ghost use Rattle.scr_plan.specs.FinalEntry.{final_entry};
 
 use crate::carrying::core_of;
@@ -38,10 +40,10 @@ impl Model for RunPlan {
 impl RunPlan {
     /// The plan with these parts. Row 1 stands first.
     pub fn make(rows: Vec<Row>, cores: u32, history: u32, drops: Drops) -> Self
-        requires few_rows { length rows.items ≤ 1000000 }
+        requires few_rows { length rows.items ≤ most_packets }
         requires a_core { 1 ≤ cores }
-        requires few_cores { cores ≤ 16 }
-        requires short_history { history ≤ 64 }
+        requires few_cores { cores ≤ most_cores }
+        requires short_history { history ≤ longest_history }
         ensures rows { result.rows ≡ rows.items }
         ensures cores { result.cores ≡ cores }
         ensures history { result.history ≡ history }

@@ -7,12 +7,13 @@ use Rattle.std.proofs.lemmas.List.Elements.{filter_map-append, All-nil, All-cons
 use Rattle.scr_base.specs.declared.row.Row.{Row}
 use Rattle.scr_base.specs.declared.row.Verdict.{Verdict}
 use Rattle.scr_plan.specs.declared.given.Given.{Given}
-use Rattle.scr_plan.specs.Delivered.{delivered}
-use Rattle.scr_plan.specs.Kept.{kept}
+use Rattle.scr_plan.specs.Delivered.{delivers}
+use Rattle.scr_plan.specs.Kept.{keeps}
 use Rattle.scr_plan.specs.Counts.{delivered_count, kept_count}
-use Rattle.scr_plan.specs.Plan.{Plan, frame_count, delivers}
+use Rattle.scr_plan.specs.Plan.{Plan, frame_count}
 use Rattle.scr_plan.proofs.FromOne.{range-suc, count-suc}
-use Rattle.scr_plan.proofs.Packets.{delivered-no_drops, kept-no_drops}
+use Rattle.scr_plan.proofs.Delivering.{delivered-no_drops}
+use Rattle.scr_plan.proofs.Packets.{kept-no_drops}
 use Rattle.scr_replica.specs.OneCore.{given_with, given_at, verdicts}
 
 -- a test that all numbers from 1 to m pass counts m
@@ -22,11 +23,12 @@ count-all test (suc m) all =
     let before = count-all test m (λ n from to. all n from (omega arith)) in
     rw (count-suc test m, all (suc m) (omega arith) (omega arith)) (omega (arith, before))
 
-pub delivered_count-undivided : (frames : ℕ) → delivered_count [] frames ≡ frames
-delivered_count-undivided frames = count-all (λ n. delivered [] frames n) frames (λ n from to. delivered-no_drops frames n from to)
+-- where no frame is dropped, all are delivered, and all packets are kept
+pub delivered_count-all : (plan : Plan) → plan.drops ≡ [] → delivered_count plan ≡ frame_count plan
+delivered_count-all plan none = count-all (λ n. delivers plan n) (frame_count plan) (λ n from to. delivered-no_drops plan n none from to)
 
-pub kept_count-undivided : (history frames : ℕ) → kept_count [] history frames ≡ frames
-kept_count-undivided history frames = count-all (λ p. kept [] history frames p) frames (λ p from to. kept-no_drops history frames p from to)
+pub kept_count-all : (plan : Plan) → plan.drops ≡ [] → kept_count plan ≡ frame_count plan
+kept_count-all plan none = count-all (λ p. keeps plan p) (frame_count plan) (λ p from to. kept-no_drops plan p none from to)
 
 -- there is a row at each number
 row-there : (rows : List Row) (n : ℕ) → n < length rows → (row : Row) × (slice_get rows n ≡ Some row)
@@ -59,7 +61,7 @@ module _ (verdict_after : List Row → Row → Verdict) (plan : Plan) where
       ∙ sym (count-suc (λ n. delivers plan n) m)
 
   -- as many verdicts as delivered frames
-  pub length-verdicts-delivered : length (verdicts verdict_after plan) ≡ delivered_count plan.drops (frame_count plan)
+  pub length-verdicts-delivered : length (verdicts verdict_after plan) ≡ delivered_count plan
   unfolding verdicts
   length-verdicts-delivered = length-up_to (frame_count plan) (omega arith)
 

@@ -4,11 +4,13 @@ use Rattle.std.specs.Prelude.{fold}
 use Rattle.std.proofs.lemmas.Bool.{cases_lt}
 use Rattle.std.proofs.lemmas.List.{length-append, map-append, take_at}
 use Rattle.std.proofs.lemmas.Grind.{fold-append}
-use Rattle.scr_plan.specs.Plan.{Plan, frame_count, delivers_to}
+use Rattle.scr_plan.specs.Plan.{Plan, frame_count}
+use Rattle.scr_plan.specs.Delivered.{delivers_to}
 use Rattle.scr_wire.specs.declared.message.Message.{Message}
 use Rattle.scr_wire.specs.declared.message.Message.TheVariants.{Beacon, End}
 use Rattle.scr_wire.specs.Spelling.{number_of}
-use Rattle.scr_wire.specs.Lane.{frame, has_beacon, beacon_before, frame_to, added, lane_so_far, lane, decided_by, decided_by_all, decided}
+use Rattle.scr_plan.specs.Order.{has_beacon}
+use Rattle.scr_wire.specs.Lane.{frame, beacon_before, frame_to, added, lane_so_far, lane, decided_by, decided_by_all, decided}
 use Rattle.scr_wire.proofs.LaneGrows.{lane_so_far-zero, lane_so_far-suc, lane_front, lane_at, lane_at_end, length-lane}
 use Rattle.scr_wire.proofs.Decides.{decided-suc, decided-le}
 use Rattle.scr_replica.specs.declared.entry.Entry.{Entry}

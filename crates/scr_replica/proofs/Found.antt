@@ -7,7 +7,8 @@ use Rattle.std.proofs.lemmas.Bool.{cases_lt}
 use Rattle.std.proofs.lemmas.List.{length-take-le, length-drop, get_or-take, get_or-drop, take_all}
 use Rattle.std.proofs.lemmas.List.FromFn.{get_or-map-range_with_len}
 use Rattle.scr_base.specs.declared.row.Row.{Row}
-use Rattle.scr_plan.specs.Plan.{Plan, IsPlan, frame_count, delivers_to}
+use Rattle.scr_plan.specs.Plan.{Plan, IsPlan, frame_count}
+use Rattle.scr_plan.specs.Delivered.{delivers_to}
 use Rattle.scr_plan.specs.FinalEntry.{final_entry}
 use Rattle.scr_replica.specs.declared.entry.Entry.{Entry}
 use Rattle.scr_replica.specs.declared.entry.Entry.TheVariants.{Lost}

@@ -5,8 +5,9 @@ use Rattle.std.proofs.lemmas.Bool.{false_from_ne_true}
 use Rattle.std.proofs.lemmas.List.{length-drop, length-take-le, get_or-drop, get_or-take}
 use Rattle.std.proofs.lemmas.Option.{slice_get-get_or, get_or_from_slice_get, slice_get_within}
 use Rattle.scr_base.specs.declared.row.Row.{Row}
-use Rattle.scr_plan.specs.Kept.{first_carried}
-use Rattle.scr_plan.specs.Plan.{Plan, frame_count, row_of, delivers_to, carries_to}
+use Rattle.scr_plan.specs.Kept.{first_carried, carries_to}
+use Rattle.scr_plan.specs.Plan.{Plan, frame_count, row_of}
+use Rattle.scr_plan.specs.Delivered.{delivers_to}
 use Rattle.scr_plan.proofs.Packets.{Decides-carried}
 use Rattle.scr_wire.specs.declared.message.Message.{Message}
 use Rattle.scr_wire.specs.Spelling.{number_of, rows_of}
@@ -86,7 +87,7 @@ module _ (plan : Plan) (core : ℕ) (message : Message) (known : List Entry) (fr
         let from = is.is.from in
         let to = to_frame in
         let counted = count_of in
-        (Decides-carried plan.drops plan.cores plan.history (frame_count plan) core p).1
+        (Decides-carried plan core p).1
         (record { frame = number_of message; is_delivered = is; carries_it = record { from = omega arith; to = to } })
 
     -- its own frame was delivered before only if the packet is known

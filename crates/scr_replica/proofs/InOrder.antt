@@ -8,10 +8,11 @@ use Rattle.std.proofs.lemmas.List.{drop-drop, get_or-map, get_or-replicate, get_
 use Rattle.std.proofs.lemmas.List.FromFn.{get_or-map-range_with_len}
 use Rattle.scr_base.specs.declared.row.Row.{Row}
 use Rattle.scr_base.specs.declared.row.Verdict.{Verdict}
-use Rattle.scr_plan.specs.Delivered.{delivered_to, core_number}
+use Rattle.scr_plan.specs.Delivered.{delivers_to, core_number, delivers}
 use Rattle.scr_plan.specs.declared.given.Given.{Given}
-use Rattle.scr_plan.specs.Plan.{Plan, frame_count, row_of, delivers, delivers_to, plan_counts}
-use Rattle.scr_plan.proofs.Packets.{delivered_to-other}
+use Rattle.scr_plan.specs.Plan.{Plan, frame_count, row_of}
+use Rattle.scr_plan.specs.Counts.{plan_counts}
+use Rattle.scr_plan.proofs.Delivering.{delivered_to-other}
 use Rattle.scr_replica.specs.OneCore.{given_with, given_at, given_to, course, course_up_to, verdicts, entries}
 use Rattle.scr_replica.specs.Answers.{CoreAnswer, courses, core_answer, core_answers}
 use Rattle.scr_replica.proofs.Taking.{filter_map-more}
@@ -64,10 +65,10 @@ module _ (verdict_after : List Row → Row → Verdict) (plan : Plan) where
     rest-other core other =
         rest-here core
         ∙ ap (λ (b : Bool). cons_option (cond b (option_map (given_with verdict_after plan n) (row_of plan n)) None) (rest core (n + 1)))
-        (delivered_to-other plan.drops plan.cores (frame_count plan) core n other)
+        (delivered_to-other plan core n other)
 
     own_delivers : (core : ℕ) → core ≡ core_number plan.cores n → delivers_to plan core n ≡ delivers plan n
-    unfolding delivered_to
+    unfolding delivers_to
     own_delivers core is =
         let same = eq-eqb (core_number plan.cores n) core (sym is) in
         let both : (b : Bool) → (b && true) ≡ b = elim [ true ↦ refl | false ↦ refl ] in

@@ -4,10 +4,11 @@ use Rattle.std.proofs.lemmas.Bool.{false_from_ne_true, cases_lt}
 use Rattle.std.proofs.lemmas.List.{length_push, append-nil}
 use Rattle.std.proofs.lemmas.List.FromFn.{map-range_with_len_more, length-map-range_with_len}
 use Rattle.scr_base.specs.declared.row.Row.{Row}
-use Rattle.scr_plan.specs.Delivered.{IsDeliveredTo}
-use Rattle.scr_plan.specs.Kept.{first_carried}
-use Rattle.scr_plan.specs.Plan.{Plan, frame_count, row_of, delivers_to, carries_to}
-use Rattle.scr_plan.proofs.Packets.{Decides-delivered_to, Decides-carried}
+use Rattle.scr_plan.specs.Delivered.{IsDeliveredTo, delivers_to}
+use Rattle.scr_plan.specs.Kept.{first_carried, carries_to}
+use Rattle.scr_plan.specs.Plan.{Plan, frame_count, row_of}
+use Rattle.scr_plan.proofs.Delivering.{Decides-delivered_to}
+use Rattle.scr_plan.proofs.Packets.{Decides-carried}
 use Rattle.scr_replica.specs.declared.entry.Entry.{Entry}
 use Rattle.scr_replica.specs.declared.entry.Entry.TheVariants.{Delivered, Carried, Lost}
 use Rattle.scr_replica.specs.Entries.{entry_with, entry_of, entries_up_to, Knows, with_lost}
@@ -64,8 +65,8 @@ module _ (plan : Plan) (core : ℕ) where
 
   -- ---- frames
 
-  pub is_frame_to : (n : ℕ) → delivers_to plan core n ≡ true → IsDeliveredTo plan.drops plan.cores (frame_count plan) core n
-  is_frame_to n holds = (Decides-delivered_to plan.drops plan.cores (frame_count plan) core n).0 holds
+  pub is_frame_to : (n : ℕ) → delivers_to plan core n ≡ true → IsDeliveredTo plan core n
+  is_frame_to n holds = (Decides-delivered_to plan core n).0 holds
 
   -- no frame carries a packet behind all that is known, where no later frame does
   pub not_carried : (n p : ℕ) (known : List Entry) → Knows plan core n known → length known < p
@@ -73,10 +74,10 @@ module _ (plan : Plan) (core : ℕ) where
   not_carried n p known knows above none =
       false_from_ne_true (carries_to plan core p)
       (λ holds.
-      let is = (Decides-carried plan.drops plan.cores plan.history (frame_count plan) core p).0 holds in
+      let is = (Decides-carried plan core p).0 holds in
       let it = is.is_delivered in
       let by = is.carries_it in
-      let again : delivers_to plan core is.frame ≡ true = (Decides-delivered_to plan.drops plan.cores (frame_count plan) core is.frame).1 it in
+      let again : delivers_to plan core is.frame ≡ true = (Decides-delivered_to plan core is.frame).1 it in
       elim (cases_lt n is.frame) as (λ _. ⊥) [
         | inl later ↦ (let early = none is.frame later it.is.to in absurd (omega (arith, by.from)))
         | inr before ↦ (let le = knows.own is.frame before again in absurd (omega (arith, by.to)))

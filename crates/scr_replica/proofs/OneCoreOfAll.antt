@@ -7,12 +7,12 @@ use Rattle.std.proofs.lemmas.List.{take_more, take_all, take-append-le, length_p
 use Rattle.std.proofs.lemmas.Option.{slice_get-get_or}
 use Rattle.scr_base.specs.declared.row.Row.{Row}
 use Rattle.scr_base.specs.declared.row.Verdict.{Verdict}
-use Rattle.scr_plan.specs.declared.drops.DropRange.{DropRange}
 use Rattle.scr_plan.specs.declared.given.Given.{Given}
-use Rattle.scr_plan.specs.Delivered.{delivered}
-use Rattle.scr_plan.specs.Kept.{kept}
-use Rattle.scr_plan.specs.Plan.{Plan, frame_count, row_of, delivers, keeps}
-use Rattle.scr_plan.proofs.Packets.{delivered-no_drops, kept-no_drops}
+use Rattle.scr_plan.specs.Delivered.{delivers}
+use Rattle.scr_plan.specs.Kept.{keeps}
+use Rattle.scr_plan.specs.Plan.{Plan, frame_count, row_of}
+use Rattle.scr_plan.proofs.Delivering.{delivered-no_drops}
+use Rattle.scr_plan.proofs.Packets.{kept-no_drops}
 use Rattle.scr_replica.specs.OneCore.{kept_row, kept_rows, entries, given_with, given_at, given_in, verdicts, all_verdicts}
 use Rattle.scr_replica.proofs.Taking.{filter_map-more, kept_rows-zero, kept_rows-more}
 
@@ -30,12 +30,10 @@ zero_row = record { w0 = 0; w1 = 0; w2 = 0; w3 = 0; w4 = 0; w5 = 0; w6 = 0 }
 
 module _ (plan : Plan) (none : plan.drops ≡ []) where
   all_kept : (p : ℕ) → 1 ≤ p → p ≤ frame_count plan → keeps plan p ≡ true
-  all_kept p from to =
-      ap (λ (drops : List DropRange). kept drops plan.history (frame_count plan) p) none ∙ kept-no_drops plan.history (frame_count plan) p from to
+  all_kept p from to = kept-no_drops plan p none from to
 
   all_delivered : (n : ℕ) → 1 ≤ n → n ≤ frame_count plan → delivers plan n ≡ true
-  all_delivered n from to =
-      ap (λ (drops : List DropRange). delivered drops (frame_count plan) n) none ∙ delivered-no_drops (frame_count plan) n from to
+  all_delivered n from to = delivered-no_drops plan n none from to
 
   -- the kept rows are all rows
   pub kept_rows-all : (p : ℕ) → p ≤ frame_count plan → kept_rows plan p ≡ take p plan.rows

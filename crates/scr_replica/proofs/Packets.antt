@@ -4,10 +4,11 @@ use Rattle.std.specs.Prelude.{is_some}
 use Rattle.std.proofs.lemmas.Bool.{false_from_ne_true}
 use Rattle.std.proofs.lemmas.Option.{slice_get-get_or}
 use Rattle.scr_base.specs.declared.row.Row.{Row}
-use Rattle.scr_plan.specs.Delivered.{core_number}
-use Rattle.scr_plan.specs.Plan.{Plan, IsPlan, frame_count, row_of, delivers_to, carries_to, keeps}
+use Rattle.scr_plan.specs.Delivered.{core_number, delivers_to}
+use Rattle.scr_plan.specs.Plan.{Plan, IsPlan, frame_count, row_of}
+use Rattle.scr_plan.specs.Kept.{carries_to, keeps}
 use Rattle.scr_plan.specs.FinalEntry.{final_entry}
-use Rattle.scr_plan.proofs.Packets.{Decides-delivered_to, Decides-carried, Decides-kept, Carries-own, kept-carried}
+use Rattle.scr_plan.proofs.Packets.{kept-by_some, carried-own, kept-carried}
 use Rattle.scr_replica.specs.Entries.{row_in, is_delivered, entry_with, entry_of}
 use Rattle.scr_replica.specs.OneCore.{kept_row}
 
@@ -45,17 +46,12 @@ module _ (plan : Plan) (p : ℕ) (from : 1 ≤ p) (to : p ≤ frame_count plan) 
   -- a packet that nobody knows isn't kept
   pub unknown-unkept : IsPlan plan → ((core : ℕ) → core < plan.cores → final_entry plan core p ≡ None) → kept_row plan p ≡ None
   unknown-unkept is_plan unknown =
-      let some = is_plan.a_core in
       let not_kept : keeps plan p ≡ false =
       false_from_ne_true (keeps plan p)
       (λ holds.
-      let is = (Decides-kept plan.drops plan.history (frame_count plan) p).0 holds in
-      let core : ℕ = core_number plan.cores is.frame in
-      let known : carries_to plan core p ≡ true =
-      (Decides-carried plan.drops plan.cores plan.history (frame_count plan) core p).1
-      (record { frame = is.frame; is_delivered = record { is = is.is_delivered; its_core = refl }; carries_it = is.carries_it }) in
-      let none = unknown core (omega arith) in
-      let there : final_entry plan core p ≡ Some the_row = ap (λ (b : Bool). cond b (row_of plan p) None) known ∙ row_is in
+      let some = kept-by_some plan p is_plan holds in
+      let none = unknown some.0 some.1 in
+      let there : final_entry plan some.0 p ≡ Some the_row = ap (λ (b : Bool). cond b (row_of plan p) None) some.2 ∙ row_is in
       absurd cc) in
       ap (λ (b : Bool). cond b (row_of plan p) None) not_kept
 
@@ -64,7 +60,7 @@ module _ (plan : Plan) (p : ℕ) (from : 1 ≤ p) (to : p ≤ frame_count plan) 
     pub known-kept : (row : Row) → final_entry plan core p ≡ Some row → kept_row plan p ≡ Some row
     known-kept row e =
         let both = some_of_cond (carries_to plan core p) (row_of plan p) row e in
-        ap (λ (b : Bool). cond b (row_of plan p) None) (kept-carried plan.drops plan.cores plan.history (frame_count plan) core p both.0)
+        ap (λ (b : Bool). cond b (row_of plan p) None) (kept-carried plan core p both.0)
         ∙ both.1
 
     pub is_some-entry : is_some (row_in (entry_of plan core p)) ≡ carries_to plan core p
@@ -73,18 +69,8 @@ module _ (plan : Plan) (p : ℕ) (from : 1 ≤ p) (to : p ≤ frame_count plan) 
         ∙ ap (λ (o : Option Row). is_some (cond (carries_to plan core p) o None)) row_is
         ∙ is_some-cond (carries_to plan core p) the_row
 
-    -- a frame carries its own packet
-    pub carried_own : delivers_to plan core p ≡ true → carries_to plan core p ≡ true
-    carried_own holds =
-        (Decides-carried plan.drops plan.cores plan.history (frame_count plan) core p).1
-        (record {
-          frame = p;
-          is_delivered = (Decides-delivered_to plan.drops plan.cores (frame_count plan) core p).0 holds;
-          carries_it = Carries-own plan.history p from;
-        })
-
     pub is_delivered-entry : is_delivered (entry_of plan core p) ≡ delivers_to plan core p
     is_delivered-entry =
         is_delivered-entry_with (delivers_to plan core p) (final_entry plan core p)
         (λ holds.
-        ap (λ (b : Bool). is_some (cond b (row_of plan p) None)) (carried_own holds) ∙ ap is_some row_is)
+        ap (λ (b : Bool). is_some (cond b (row_of plan p) None)) (carried-own plan core p holds) ∙ ap is_some row_is)

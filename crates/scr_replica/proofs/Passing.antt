@@ -3,13 +3,14 @@ use Rattle.std.proofs.Common.{◌≡◌, ℕ, ◌+◌, ◌-◌, ◌<◌, Bool, t
 use Rattle.std.specs.Prelude.{OnOk}
 use Rattle.std.proofs.lemmas.List.{length-set, length-replicate, get_or-replicate, get_or-set_same, get_or-set_other}
 use Rattle.std.proofs.lemmas.Bool.{cases_eq, eq-eqb}
-use Rattle.scr_plan.specs.Delivered.{delivered_to, core_number}
-use Rattle.scr_plan.specs.Plan.{Plan, frame_count, delivers, delivers_to}
-use Rattle.scr_plan.proofs.Packets.{delivered_to-other}
+use Rattle.scr_plan.specs.Delivered.{delivers_to, core_number, delivers}
+use Rattle.scr_plan.specs.Plan.{Plan, frame_count}
+use Rattle.scr_plan.proofs.Delivering.{delivered_to-other}
 use Rattle.scr_wire.specs.declared.message.Message.{Message}
 use Rattle.scr_wire.specs.declared.message.Message.TheVariants.{Beacon}
 use Rattle.scr_wire.specs.Spelling.{number_of}
-use Rattle.scr_wire.specs.Lane.{frame, has_beacon, beacon_before}
+use Rattle.scr_plan.specs.Order.{has_beacon}
+use Rattle.scr_wire.specs.Lane.{frame, beacon_before}
 use Rattle.scr_sequencer.specs.declared.outgoing.Outgoing.{Outgoing}
 use Rattle.scr_sequencer.specs.Answers.{Adds, beacons_of}
 use Rattle.scr_replica.specs.declared.entry.Entry.{Entry}
@@ -57,11 +58,11 @@ module _ (plan : Plan) where
         }
 
     undelivered : (core p : ℕ) → delivers plan p ≡ false → delivers_to plan core p ≡ false
-    unfolding delivered_to
+    unfolding delivers_to
     undelivered core p e = ap (λ (b : Bool). b && eqb (core_number plan.cores p) core) e
 
     delivered_own : (p : ℕ) → delivers plan p ≡ true → delivers_to plan (core_number plan.cores p) p ≡ true
-    unfolding delivered_to
+    unfolding delivers_to
     delivered_own p e = let same = eq-eqb (core_number plan.cores p) (core_number plan.cores p) refl in rw (e, same) refl
 
     -- a frame that isn't delivered
@@ -96,7 +97,7 @@ module _ (plan : Plan) where
                   | inr other ↦
                       subst (Knows plan core (n + 1)) (sym (get_or-set_other cores own core known [] other))
                       (Knows-other plan core n (n + 1) (get_or cores core []) refl
-                      (delivered_to-other plan.drops plan.cores (frame_count plan) core (n + 1) (λ e. other (sym e ∙ sym own-is))) (know.each core below))
+                      (delivered_to-other plan core (n + 1) (λ e. other (sym e ∙ sym own-is))) (know.each core below))
                 ];
           }
 

@@ -12,14 +12,15 @@ use Rattle.scr_base.specs.declared.row.Row.{Row}
 use Rattle.scr_base.specs.declared.row.Verdict.{Verdict}
 use Rattle.scr_plan.specs.declared.counting.CoreCounts.{CoreCounts}
 use Rattle.scr_plan.specs.declared.given.Given.{Given}
-use Rattle.scr_plan.specs.Plan.{Plan, frame_count, row_of, delivers_to, carries_to, keeps}
+use Rattle.scr_plan.specs.Plan.{Plan, frame_count, row_of}
+use Rattle.scr_plan.specs.Delivered.{delivers_to}
+use Rattle.scr_plan.specs.Counts.{counts_up_to}
+use Rattle.scr_plan.specs.Kept.{carries_to, keeps}
 use Rattle.scr_plan.proofs.FromOne.{range-suc, count-suc}
-use Rattle.scr_plan.proofs.Packets.{kept-carried}
+use Rattle.scr_plan.proofs.Packets.{kept-carried, carried-own}
 use Rattle.scr_replica.specs.declared.entry.Entry.{Entry}
 use Rattle.scr_replica.specs.Entries.{AllFinal, entries_up_to}
 use Rattle.scr_replica.specs.OneCore.{kept_row, kept_rows, given_with, given_to, course_up_to}
-use Rattle.scr_replica.specs.Answers.{counts_up_to}
-use Rattle.scr_replica.proofs.Packets.{carried_own}
 
 cons_none : {Y : Type 0} (o : Option Y) → cons_option o [] ≡ option_to_list o
 cons_none None = refl
@@ -140,4 +141,4 @@ module _ (plan : Plan) (n p : ℕ) (next : n + 1 ≡ p) where
           ∙ ap (λ (o : Option Row). cond own (option_to_list (option_map (given_with verdict_after plan p) o)) []) row-is
           ∙ ap (λ (b : Bool). cond b (option_to_list (option_map (given_with verdict_after plan p) (kept_row plan p))) []) own-is
           ∙ given_of (delivers_to plan core p) (keeps plan p) (row_of plan p) (given_with verdict_after plan p)
-          (λ holds. kept-carried plan.drops plan.cores plan.history (frame_count plan) core p (carried_own plan p from to core holds))
+          (λ holds. kept-carried plan core p (carried-own plan core p holds))

@@ -1,11 +1,12 @@
 -- What the cores of a run answer: the verdicts, the counts and the number of entries of one core, and of all together.
-use Rattle.std.specs.Prelude.{ℕ, ◌&&◌, not, List, map, count_by}
+use Rattle.std.specs.Prelude.{ℕ, List, map}
 use Rattle.std.specs.List.{range_with_len}
 use Rattle.scr_base.specs.declared.row.Row.{Row}
 use Rattle.scr_base.specs.declared.row.Verdict.{Verdict}
 use Rattle.scr_plan.specs.declared.counting.CoreCounts.{CoreCounts}
 use Rattle.scr_plan.specs.declared.given.Given.{Given}
-use Rattle.scr_plan.specs.Plan.{Plan, delivers_to, carries_to, keeps, plan_counts}
+use Rattle.scr_plan.specs.Plan.{Plan}
+use Rattle.scr_plan.specs.Counts.{plan_counts}
 use Rattle.scr_replica.specs.OneCore.{course, verdicts, entries}
 
 pub record CoreAnswer : Type 0 where
@@ -18,15 +19,6 @@ pub record Answer : Type 0 where
   pub verdicts : List Given
   pub cores : List CoreCounts
   pub flows : ℕ
-
--- the counts of a core over the packets up to p; over all packets they are those of the plan
-abbrev pub counts_up_to : Plan → (core p : ℕ) → CoreCounts
-counts_up_to plan core p = record {
-  delivered = count_by (λ n. delivers_to plan core n) (range_with_len 1 p);
-  carried = count_by (λ n. carries_to plan core n) (range_with_len 1 p);
-  recovered = count_by (λ n. keeps plan n && not (carries_to plan core n)) (range_with_len 1 p);
-  skipped = count_by (λ n. not (keeps plan n)) (range_with_len 1 p);
-}
 
 -- the verdicts of each core, in order
 abbrev pub courses : (List Row → Row → Verdict) → Plan → List (List Given)

@@ -2,7 +2,8 @@
 use Rattle.std.specs.Prelude.{◌≡◌, ℕ, ◌-◌, ◌<◌, ◌≤◌, Bool, true, false, List, [], ◌++◌, length, map, replicate, slice_index_or, Option, Some, None, if◌then◌else◌}
 use Rattle.std.specs.List.{range_with_len}
 use Rattle.scr_base.specs.declared.row.Row.{Row}
-use Rattle.scr_plan.specs.Plan.{Plan, frame_count, delivers_to}
+use Rattle.scr_plan.specs.Plan.{Plan, frame_count}
+use Rattle.scr_plan.specs.Delivered.{delivers_to}
 use Rattle.scr_plan.specs.FinalEntry.{final_entry}
 use Rattle.scr_wire.specs.declared.message.Message.{Message}
 use Rattle.scr_wire.specs.Spelling.{number_of}

@@ -7,7 +7,9 @@ use Rattle.std.specs.Option.{option_map}
 use Rattle.scr_base.specs.declared.row.Row.{Row}
 use Rattle.scr_base.specs.declared.row.Verdict.{Verdict}
 use Rattle.scr_plan.specs.declared.given.Given.{Given}
-use Rattle.scr_plan.specs.Plan.{Plan, frame_count, row_of, delivers, delivers_to, keeps}
+use Rattle.scr_plan.specs.Plan.{Plan, frame_count, row_of}
+use Rattle.scr_plan.specs.Delivered.{delivers, delivers_to}
+use Rattle.scr_plan.specs.Kept.{keeps}
 
 -- the row of packet p, where it is kept
 abbrev pub kept_row : Plan → ℕ → Option Row

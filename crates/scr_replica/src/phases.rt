@@ -1,6 +1,6 @@
 ghost use Rattle.std.specs.Prelude.{◌≡◌, ◌≤◌, map, length, IfOk};
 ghost use Rattle.std.specs.List.{range_with_len};
-ghost use Rattle.scr_plan.specs.Plan.{plan_counts};
+ghost use Rattle.scr_plan.specs.Counts.{plan_counts};
 ghost use Rattle.scr_replica.specs.OneCore.{verdicts, entries};
 ghost use Rattle.scr_replica.specs.Entries.{AllFinal};
 ghost use Rattle.scr_replica.specs.Answers.{core_answers};

@@ -7,8 +7,8 @@ use Rattle.scr_base.specs.declared.row.Row.{Row}
 use Rattle.scr_frame.specs.declared.parsed.Parsed.{Parsed}
 use Rattle.scr_frame.specs.Fields.{fields}
 use Rattle.scr_pcap.specs.Records.{Record}
-use Rattle.scr_plan.specs.Counts.{delivered_count, kept_count}
-use Rattle.scr_plan.specs.Plan.{Plan, frame_count, plan_counts}
+use Rattle.scr_plan.specs.Counts.{delivered_count, kept_count, plan_counts}
+use Rattle.scr_plan.specs.Plan.{Plan, frame_count}
 use Rattle.scr_replica.specs.OneCore.{verdicts, entries, undivided}
 use Rattle.scr_report.specs.Outcome.{Outcome, report_of, report_text}
 use Rattle.scr_words.specs.declared.settings.Command.{Command}
@@ -28,8 +28,8 @@ shaped shape rows = record { rows = rows; cores = shape.cores; history = shape.h
 abbrev pub outcome_of : Rules → Plan → Outcome
 outcome_of rules plan = report_of rules.names (verdicts rules.verdict_after plan)
     (frame_count plan)
-    (delivered_count plan.drops (frame_count plan))
-    (kept_count plan.drops plan.history (frame_count plan))
+    (delivered_count plan)
+    (kept_count plan)
     (map (plan_counts plan) (range_with_len 0 plan.cores))
     (entries rules.count_after plan)
 

@@ -6,8 +6,8 @@ ghost use Rattle.scr_pcap.specs.Records.{Record};
 ghost use Rattle.scr_pcap.specs.Reading.{IsReading};
 ghost use Rattle.scr_pcap.specs.declared.error.CaptureError.{CaptureError};
 ghost use Rattle.std.specs.List.{range_with_len};
-ghost use Rattle.scr_plan.specs.Counts.{delivered_count, kept_count};
-ghost use Rattle.scr_plan.specs.Plan.{frame_count, plan_counts};
+ghost use Rattle.scr_plan.specs.Counts.{delivered_count, kept_count, plan_counts};
+ghost use Rattle.scr_plan.specs.Plan.{frame_count};
 ghost use Rattle.scr_run.specs.Rules.{ruled_by};
 ghost use Rattle.scr_run.specs.RunReport.{shaped_text, rows_of};
 ghost use Rattle.scr_run.specs.Ends.{Ends, ended, StopsReading, status_of, IsUnlessOutOfMemory};
@@ -86,11 +86,11 @@ fn run_cores<P: Program, S: Source, O: Sink>(
 // What the cores gathered, as a report whose totals are still to be counted.
 fn report_on(alloc: Global, plan: &RunPlan, gathered: Gathered) -> Report
     requires cores { gathered.cores ≡ map (plan_counts plan.now) (range_with_len 0 plan.now.cores) }
-    requires delivered { length gathered.verdicts ≡ delivered_count plan.now.drops (frame_count plan.now) }
+    requires delivered { length gathered.verdicts ≡ delivered_count plan.now }
     ensures verdicts { result.verdicts ≡ gathered.verdicts }
     ensures frames { result.frames ≡ frame_count plan.now }
-    ensures delivered { result.delivered ≡ delivered_count plan.now.drops (frame_count plan.now) }
-    ensures kept { result.kept ≡ kept_count plan.now.drops plan.now.history (frame_count plan.now) }
+    ensures delivered { result.delivered ≡ delivered_count plan.now }
+    ensures kept { result.kept ≡ kept_count plan.now }
     ensures cores { result.cores ≡ gathered.cores }
     ensures flows { result.flows ≡ gathered.flows }
 {
@@ -115,7 +115,7 @@ fn report_on(alloc: Global, plan: &RunPlan, gathered: Gathered) -> Report
 // How many packets are kept: all but those that a core skipped.
 fn kept_of(plan: &RunPlan, cores: &[CoreCounts]) -> u32
     requires cores { cores.now ≡ map (plan_counts plan.now) (range_with_len 0 plan.now.cores) }
-    ensures { result ≡ kept_count plan.now.drops plan.now.history (frame_count plan.now) }
+    ensures { result ≡ kept_count plan.now }
 {
     let frames = plan.rows().len() as u32;
     frames - cores[0].skipped

@@ -8,11 +8,12 @@ use Rattle.circular_buffer.specs.Buffer.{keep_last}
 use Rattle.scr_base.specs.declared.row.Row.{Row}
 use Rattle.scr_base.specs.declared.word.OutOfMemory.{OutOfMemory}
 use Rattle.scr_plan.specs.Drops.{has_number}
-use Rattle.scr_plan.specs.Delivered.{delivered}
-use Rattle.scr_plan.specs.Plan.{Plan, frame_count, delivers}
+use Rattle.scr_plan.specs.Delivered.{delivers}
+use Rattle.scr_plan.specs.Plan.{Plan, frame_count}
 use Rattle.scr_wire.specs.declared.message.Message.TheVariants.{Frame, Beacon}
 use Rattle.scr_wire.specs.Spelling.{Spells}
-use Rattle.scr_wire.specs.Lane.{frame, rows_carried, has_beacon, beacon_before}
+use Rattle.scr_plan.specs.Order.{has_beacon}
+use Rattle.scr_wire.specs.Lane.{frame, rows_carried, beacon_before}
 use Rattle.scr_sequencer.specs.declared.outgoing.Outgoing.{Outgoing}
 use Rattle.scr_sequencer.specs.Sequence.{Sequence, after, carried_next}
 use Rattle.scr_sequencer.specs.Answers.{IsAnswer, Follows, IsNext, Adds, beacons_of}
@@ -69,7 +70,7 @@ unfolding beacon_before
 beacon_same n beacon h = one_beacon (has_beacon (n + 1)) n (n + 1 - 1) beacon h (omega arith)
 
 delivers_next : (plan : Plan) (n : ℕ) (dropped : Bool) → n < frame_count plan → dropped ≡ has_number plan.drops (n + 1) → delivers plan (n + 1) ≡ not dropped
-unfolding delivered
+unfolding delivers
 delivers_next plan n dropped within e =
     let from = le-leb 1 (n + 1) (omega arith) in
     let to = le-leb (n + 1) (frame_count plan) (omega arith) in

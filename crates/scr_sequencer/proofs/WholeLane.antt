@@ -4,12 +4,14 @@ use Rattle.std.specs.Prelude.{MatchOption}
 use Rattle.std.specs.List.{AllZip, flat_map, range_with_len}
 use Rattle.std.proofs.lemmas.List.Concat.{flat_map-cons}
 use Rattle.std.proofs.lemmas.List.Elements.{All-nil}
-use Rattle.scr_plan.specs.Delivered.{delivered_to, core_number}
-use Rattle.scr_plan.specs.Plan.{Plan, IsPlan, frame_count, delivers}
+use Rattle.scr_plan.specs.Delivered.{delivers_to, core_number, delivers}
+use Rattle.scr_plan.specs.Plan.{Plan, IsPlan, frame_count}
 use Rattle.scr_wire.specs.declared.message.Message.{Message}
 use Rattle.scr_wire.specs.declared.message.Message.TheVariants.{Beacon, End}
 use Rattle.scr_wire.specs.Spelling.{IsRow, HasSpelling, Spells, spelling}
-use Rattle.scr_wire.specs.Lane.{frame, has_beacon, beacon_before, frame_to, added, lane_so_far, lane}
+use Rattle.scr_plan.specs.Order.{has_beacon}
+use Rattle.scr_wire.specs.Lane.{frame, beacon_before, frame_to, added, lane_so_far, lane}
+use Rattle.scr_wire.proofs.LaneGrows.{lane_so_far-numbers}
 use Rattle.scr_sequencer.specs.declared.outgoing.Outgoing.{Outgoing}
 use Rattle.scr_sequencer.specs.Answers.{Adds, beacons_of, packets_to, sent_to}
 
@@ -44,7 +46,7 @@ to_own false m bytes h = tt
 frame_spells : (plan : Plan) (core n its_core : ℕ) (packet : Option (List ℕ)) → its_core ≡ core_number plan.cores n
     → MatchOption packet (delivers plan n ≡ false) (λ bytes. (delivers plan n ≡ true) × Spells (frame plan n) bytes)
     → AllZip Spells (frame_to plan core n) (packets_to core its_core packet)
-unfolding frame_to delivered_to
+unfolding frame_to delivers_to
 frame_spells plan core n its_core None e h = rw h tt
 frame_spells plan core n its_core (Some bytes) e h = rw (h.0, ← e) (to_own (eqb its_core core) (frame plan n) bytes h.1)
 
@@ -76,11 +78,11 @@ turns_spelled plan core n (out ∷ outs) lt turns =
 -- the whole lane of a core
 pub lane_spelled : (plan : Plan) (core : ℕ) (outs : List Outgoing) → IsPlan plan → length outs ≡ frame_count plan → AddInTurn plan 1 outs
     → AllZip Spells (lane plan core) (flat_map (sent_to core) outs ++ spelling (End (frame_count plan)) ∷ [])
-unfolding lane_so_far
 lane_spelled plan core outs is_plan all turns =
     let few = is_plan.few_rows in
     let so_far = turns_spelled plan core 1 outs (omega arith) turns in
-    let numbers : List ℕ = range_with_len 1 (frame_count plan) in
-    AllZip-append (flat_map (added plan core) numbers) (End (frame_count plan) ∷ []) (flat_map (sent_to core) outs) (spelling (End (frame_count plan)) ∷ [])
-    (subst (λ (k : ℕ). AllZip Spells (flat_map (added plan core) (range_with_len 1 k)) (flat_map (sent_to core) outs)) all so_far)
+    let numbers : AllZip Spells (flat_map (added plan core) (range_with_len 1 (frame_count plan))) (flat_map (sent_to core) outs) =
+    subst (λ (k : ℕ). AllZip Spells (flat_map (added plan core) (range_with_len 1 k)) (flat_map (sent_to core) outs)) all so_far in
+    AllZip-append (lane_so_far plan core (frame_count plan)) (End (frame_count plan) ∷ []) (flat_map (sent_to core) outs) (spelling (End (frame_count plan)) ∷ [])
+    (subst (λ (ms : List Message). AllZip Spells ms (flat_map (sent_to core) outs)) (sym (lane_so_far-numbers plan core (frame_count plan))) numbers)
     (end_spells (frame_count plan) (omega arith), tt)

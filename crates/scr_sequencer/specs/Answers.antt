@@ -3,12 +3,13 @@ use Rattle.std.specs.Prelude.{◌≡◌, ℕ, ◌+◌, ◌%◌, ◌≤◌, Bool,
 use Rattle.circular_buffer.specs.Buffer.{keep_last}
 use Rattle.scr_base.specs.declared.row.Row.{Row}
 use Rattle.scr_plan.specs.Drops.{has_number}
-use Rattle.scr_plan.specs.Plan.{Plan, frame_count, delivers}
-use Rattle.scr_plan.specs.Delivered.{core_number}
+use Rattle.scr_plan.specs.Plan.{Plan, frame_count}
+use Rattle.scr_plan.specs.Delivered.{delivers, core_number}
 use Rattle.scr_wire.specs.declared.message.Message.{Message}
 use Rattle.scr_wire.specs.declared.message.Message.TheVariants.{Frame, Beacon}
 use Rattle.scr_wire.specs.Spelling.{Spells, spelling}
-use Rattle.scr_wire.specs.Lane.{frame, has_beacon, beacon_before}
+use Rattle.scr_plan.specs.Order.{has_beacon}
+use Rattle.scr_wire.specs.Lane.{frame, beacon_before}
 use Rattle.scr_sequencer.specs.declared.outgoing.Outgoing.{Outgoing}
 use Rattle.scr_sequencer.specs.Sequence.{Sequence, carried_next}
 

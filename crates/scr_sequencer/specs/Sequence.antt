@@ -3,6 +3,7 @@
 use Rattle.std.specs.Prelude.{◌≡◌, ℕ, ◌+◌, ◌≤◌, List, [], ◌∷◌, ◌++◌, length, min}
 use Rattle.circular_buffer.specs.Buffer.{keep_last}
 use Rattle.scr_base.specs.declared.row.Row.{Row}
+use Rattle.scr_plan.specs.Limits.{most_packets, most_cores, longest_history}
 
 pub record Sequence : Type 0 where
   pub cores : ℕ
@@ -13,9 +14,9 @@ pub record Sequence : Type 0 where
 -- what is true of every sequencer
 pub record IsSequence (s : Sequence) : Type 0 where
   pub a_core : 1 ≤ s.cores
-  pub few_cores : s.cores ≤ 16
-  pub short_history : s.history ≤ 64
-  pub few_rows : s.taken ≤ 1000000
+  pub few_cores : s.cores ≤ most_cores
+  pub short_history : s.history ≤ longest_history
+  pub few_rows : s.taken ≤ most_packets
   pub last_rows : length s.rows ≡ min s.taken (s.history + 1)
 
 -- no row was given yet

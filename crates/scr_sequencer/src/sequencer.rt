@@ -1,8 +1,9 @@
 ghost use Rattle.std.specs.Prelude.{◌≡◌, ◌≤◌, ◌<◌, ◌+◌, ◌*◌, [], ◌∷◌, ◌++◌, drop, length, Some, None, IfOk, OnErr, OnOk, if◌then◌else◌};
 ghost use Rattle.circular_buffer.specs.Buffer.{keep_last};
+ghost use Rattle.scr_plan.specs.Limits.{most_packets, most_cores, longest_history};
 ghost use Rattle.scr_plan.specs.Plan.{Plan};
 ghost use Rattle.scr_wire.specs.declared.message.Message.TheVariants.{Frame};
-ghost use Rattle.scr_wire.specs.Lane.{has_beacon};
+ghost use Rattle.scr_plan.specs.Order.{has_beacon};
 ghost use Rattle.scr_wire.specs.Spelling.{Spells};
 ghost use Rattle.scr_sequencer.specs.Sequence.{Sequence, IsSequence, begun, after, carried_next};
 ghost use Rattle.scr_sequencer.specs.Answers.{IsAnswer, Follows, IsNext, Adds};
@@ -76,8 +77,8 @@ impl Sequencer {
     /// A sequencer for so many cores, whose frames carry so many packets before their own. No row was given yet.
     pub fn make(alloc: Global, cores: u32, history: u32) -> Result<Self, OutOfMemory>
         requires a_core { 1 ≤ cores }
-        requires few_cores { cores ≤ 16 }
-        requires short_history { history ≤ 64 }
+        requires few_cores { cores ≤ most_cores }
+        requires short_history { history ≤ longest_history }
         ensures { IfOk result (λ sequencer. sequencer ≡ begun cores history) }
     {
         let rows = HeapCircularBuffer::with_capacity(alloc, history as usize + 1)?;
@@ -99,7 +100,7 @@ impl Sequencer {
 
     // The message of the next frame, whose row this is.
     fn packet(&self, row: &Row) -> Result<Packet, OutOfMemory>
-        requires { self.now.taken < 1000000 }
+        requires { self.now.taken < most_packets }
         ensures { IfOk result (Spells (Frame (self.now.taken + 1) (carried_next self.now row.now))) }
     {
         let (front, back) = last_rows(&self.rows, self.history as usize);
@@ -108,7 +109,7 @@ impl Sequencer {
 
     // The answer to one more row.
     fn take(&mut self, row: Row, dropped: bool) -> Result<Outgoing, OutOfMemory>
-        requires { self.old.taken < 1000000 }
+        requires { self.old.taken < most_packets }
         ensures answer { IfOk result (IsAnswer self.old row dropped) }
         ensures ok { OnOk result (self.new ≡ after self.old row) }
         ensures err { OnErr result (self.new ≡ self.old) }
@@ -131,7 +132,7 @@ impl Sequencer {
     /// What the next number adds to the lanes: its packet has this row, and its frame may be dropped. After an error
     /// nothing has changed.
     pub fn next(&mut self, row: Row, dropped: bool) -> Result<Outgoing, OutOfMemory>
-        requires { self.old.taken < 1000000 }
+        requires { self.old.taken < most_packets }
         ensures answer { IfOk result (IsAnswer self.old row dropped) }
         ensures ok { OnOk result (self.new ≡ after self.old row) }
         ensures err { OnErr result (self.new ≡ self.old) }

@@ -4,10 +4,12 @@ use Rattle.std.specs.Prelude.{fold}
 use Rattle.std.specs.List.{AllByRecursion}
 use Rattle.std.proofs.lemmas.List.{take_all, take_more, map-append}
 use Rattle.std.proofs.lemmas.Grind.{fold-append}
-use Rattle.scr_plan.specs.Plan.{Plan, frame_count, delivers_to}
+use Rattle.scr_plan.specs.Plan.{Plan, frame_count}
+use Rattle.scr_plan.specs.Delivered.{delivers_to}
+use Rattle.scr_plan.specs.Order.{has_beacon}
 use Rattle.scr_wire.specs.declared.message.Message.{Message}
 use Rattle.scr_wire.specs.declared.message.Message.TheVariants.{Beacon, End}
-use Rattle.scr_wire.specs.Lane.{frame, has_beacon, beacon_before, frame_to, added, lane_so_far, lane, decided_by, decided_by_all, decided}
+use Rattle.scr_wire.specs.Lane.{frame, beacon_before, frame_to, added, lane_so_far, lane, decided_by, decided_by_all, decided}
 use Rattle.scr_wire.proofs.LaneGrows.{lane_so_far-zero, lane_so_far-suc}
 
 pub decided-zero : (plan : Plan) (core : ℕ) → decided plan core 0 ≡ 0

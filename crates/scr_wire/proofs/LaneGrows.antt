@@ -1,29 +1,51 @@
 -- How a lane grows, number by number, and where its messages stand.
-use Rattle.std.proofs.Common.{◌≡◌, ℕ, zero, suc, ◌+◌, ◌-◌, ◌<◌, ◌≤◌, Bool, true, false, cond, List, [], ◌∷◌, ◌++◌, length, get_or, refl, ap, ◌∙◌, append_assoc, arith}
+use Rattle.std.proofs.Common.{◌≡◌, ℕ, zero, suc, ◌+◌, ◌-◌, ◌<◌, ◌≤◌, Bool, true, false, cond, List, [], map, ◌∷◌, ◌++◌, length, get_or, refl, sym, ap, ◌∙◌, append_assoc, arith}
 use Rattle.std.specs.List.{flat_map, range_with_len}
-use Rattle.std.proofs.lemmas.List.{length-append, append-nil, get_or-append-add, get_or_append_left}
+use Rattle.std.proofs.lemmas.List.{map-append, length-append, append-nil, get_or-append-add, get_or_append_left}
 use Rattle.std.proofs.Math.Seq.{get_or-append_seam}
-use Rattle.std.proofs.lemmas.List.Concat.{flat_map-cons}
-use Rattle.std.proofs.lemmas.Grind.{flat_map-append}
-use Rattle.scr_plan.specs.Plan.{Plan, frame_count, delivers_to}
-use Rattle.scr_plan.proofs.FromOne.{range-suc}
+use Rattle.scr_plan.specs.Plan.{Plan, frame_count}
+use Rattle.scr_plan.specs.Delivered.{delivers_to}
+use Rattle.scr_plan.specs.Order.{Item, has_beacon, items_at, items_to}
+use Rattle.scr_plan.specs.Order as item
+use Rattle.scr_plan.proofs.FromOne.{lists-suc}
+use Rattle.scr_plan.proofs.OrderGrows.{items_to-zero, items_to-suc, items_to-append}
 use Rattle.scr_wire.specs.declared.message.Message.{Message}
 use Rattle.scr_wire.specs.declared.message.Message.TheVariants.{Beacon, End}
-use Rattle.scr_wire.specs.Lane.{frame, has_beacon, beacon_before, frame_to, added, lane_so_far, lane}
+use Rattle.scr_wire.specs.Lane.{frame, message_of, beacon_before, frame_to, added, lane_so_far, lane}
+
+-- the messages that number n adds
+one_if : (plan : Plan) (b d : Bool) (n : ℕ)
+    → map (message_of plan) (cond b (item.Beacon (n - 1) ∷ []) [] ++ cond d (item.Frame n ∷ []) [])
+    ≡ cond b (Beacon (n - 1) ∷ []) [] ++ cond d (frame plan n ∷ []) []
+one_if plan true true n = refl
+one_if plan true false n = refl
+one_if plan false true n = refl
+one_if plan false false n = refl
+
+pub added-items : (plan : Plan) (core n : ℕ) → map (message_of plan) (items_at plan core n) ≡ added plan core n
+unfolding beacon_before frame_to
+added-items plan core n = one_if plan (has_beacon n) (delivers_to plan core n) n
 
 -- no number adds nothing
 pub lane_so_far-zero : (plan : Plan) (core : ℕ) → lane_so_far plan core 0 ≡ []
 unfolding lane_so_far
-lane_so_far-zero plan core = refl
+lane_so_far-zero plan core = ap (map (message_of plan)) (items_to-zero plan core)
 
 -- one number more
 pub lane_so_far-suc : (plan : Plan) (core n : ℕ) → lane_so_far plan core (suc n) ≡ lane_so_far plan core n ++ added plan core (suc n)
 unfolding lane_so_far
 lane_so_far-suc plan core n =
-    let one : 1 + n ≡ suc n = omega arith in
-    ap (flat_map (added plan core)) (range-suc 1 n)
-    ∙ flat_map-append (added plan core) (range_with_len 1 n) ((1 + n) ∷ [])
-    ∙ ap (λ (x : List Message). lane_so_far plan core n ++ x) (flat_map-cons (added plan core) (1 + n) [] ∙ append-nil (added plan core (1 + n)) ∙ ap (added plan core) one)
+    ap (map (message_of plan)) (items_to-suc plan core n)
+    ∙ map-append (message_of plan) (items_to plan core n) (items_at plan core (suc n))
+    ∙ ap (λ (x : List Message). lane_so_far plan core n ++ x) (added-items plan core (suc n))
+
+-- number by number
+pub lane_so_far-numbers : (plan : Plan) (core n : ℕ) → lane_so_far plan core n ≡ flat_map (added plan core) (range_with_len 1 n)
+lane_so_far-numbers plan core zero = lane_so_far-zero plan core
+lane_so_far-numbers plan core (suc n) =
+    lane_so_far-suc plan core n
+    ∙ ap (λ (x : List Message). x ++ added plan core (suc n)) (lane_so_far-numbers plan core n)
+    ∙ sym (lists-suc (added plan core) n)
 
 -- ---- lengths
 
@@ -44,26 +66,15 @@ length-lane plan core = length-append (lane_so_far plan core (frame_count plan))
 
 -- ---- places
 
-range-append : (a n k : ℕ) → range_with_len a (n + k) ≡ range_with_len a n ++ range_with_len (a + n) k
-range-append a zero k =
-    let count : 0 + k ≡ k = omega arith in
-    let from : a ≡ a + 0 = omega arith in
-    ap (range_with_len a) count ∙ ap (λ (x : ℕ). range_with_len x k) from
-range-append a (suc n) k =
-    let count : suc n + k ≡ suc (n + k) = omega arith in
-    let from : (a + 1) + n ≡ a + suc n = omega arith in
-    ap (range_with_len a) count
-    ∙ ap (λ (x : List ℕ). a ∷ x) (range-append (a + 1) n k)
-    ∙ ap (λ (x : ℕ). a ∷ (range_with_len (a + 1) n ++ range_with_len x k)) from
-
 -- what the numbers behind the first n add
 abbrev behind : Plan → (core n k : ℕ) → List Message
-behind plan core n k = flat_map (added plan core) (range_with_len (1 + n) k)
+behind plan core n k = map (message_of plan) (flat_map (items_at plan core) (range_with_len (1 + n) k))
 
 so_far-append : (plan : Plan) (core n k : ℕ) → lane_so_far plan core (n + k) ≡ lane_so_far plan core n ++ behind plan core n k
 unfolding lane_so_far
 so_far-append plan core n k =
-    ap (flat_map (added plan core)) (range-append 1 n k) ∙ flat_map-append (added plan core) (range_with_len 1 n) (range_with_len (1 + n) k)
+    ap (map (message_of plan)) (items_to-append plan core n k)
+    ∙ map-append (message_of plan) (items_to plan core n) (flat_map (items_at plan core) (range_with_len (1 + n) k))
 
 -- what the numbers up to n add stands in front of the lane
 pub lane_front : (plan : Plan) (core n : ℕ) → n ≤ frame_count plan → (rest : List Message) × (lane plan core ≡ lane_so_far plan core n ++ rest)

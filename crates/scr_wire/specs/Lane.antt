@@ -1,11 +1,12 @@
--- The lane of a core: the list of messages that it is given over a whole run. Number by number, from 1 to the last
--- frame, first a beacon where 256 numbers are through, then the frame where it is delivered to this core. The end comes
--- last. So every lane has every beacon, and no beacon has the number of the last frame.
-use Rattle.std.specs.Prelude.{ℕ, ◌-◌, ◌%◌, Bool, ◌&&◌, List, [], ◌∷◌, ◌++◌, take, drop, map, fold, max, ◌==◌, nat_lt, if◌then◌else◌}
-use Rattle.std.specs.List.{flat_map, range_with_len}
+-- The lane of a core: the list of messages that it is given over a whole run. They are those of the order of its beacons
+-- and frames, and last the end.
+use Rattle.std.specs.Prelude.{ℕ, ◌-◌, List, [], ◌∷◌, ◌++◌, take, drop, map, fold, max, if◌then◌else◌}
 use Rattle.scr_base.specs.declared.row.Row.{Row}
-use Rattle.scr_plan.specs.Plan.{Plan, frame_count, delivers_to}
+use Rattle.scr_plan.specs.Plan.{Plan, frame_count}
+use Rattle.scr_plan.specs.Delivered.{delivers_to}
 use Rattle.scr_plan.specs.Kept.{first_carried}
+use Rattle.scr_plan.specs.Order.{Item, has_beacon, items_to}
+use Rattle.scr_plan.specs.Order as item
 use Rattle.scr_wire.specs.declared.message.Message.{Message}
 use Rattle.scr_wire.specs.declared.message.Message.TheVariants.{Frame, Beacon, End}
 
@@ -17,9 +18,18 @@ rows_carried plan n = drop (first_carried plan.history n - 1) (take n plan.rows)
 abbrev pub frame : Plan → (n : ℕ) → Message
 frame plan n = Frame n (rows_carried plan n)
 
--- whether a beacon comes before frame n: 256 numbers are through, or 512, and so on
-abbrev pub has_beacon : (n : ℕ) → Bool
-has_beacon n = nat_lt 1 n && ((n - 1) % 256 == 0)
+-- the message of a beacon or a frame
+abbrev pub message_of : Plan → Item → Message
+message_of plan (item.Beacon n) = Beacon n
+message_of plan (item.Frame n) = frame plan n
+
+-- what the numbers from 1 to n add to the lane of a core
+unfoldable pub lane_so_far : Plan → (core n : ℕ) → List Message
+lane_so_far plan core n = map (message_of plan) (items_to plan core n)
+
+-- the whole lane
+abbrev pub lane : Plan → (core : ℕ) → List Message
+lane plan core = lane_so_far plan core (frame_count plan) ++ End (frame_count plan) ∷ []
 
 -- the beacon before frame n, where there is one
 unfoldable pub beacon_before : (n : ℕ) → List Message
@@ -32,14 +42,6 @@ frame_to plan core n = if delivers_to plan core n then frame plan n ∷ [] else 
 -- what number n adds to the lane of a core
 abbrev pub added : Plan → (core n : ℕ) → List Message
 added plan core n = beacon_before n ++ frame_to plan core n
-
--- what the numbers from 1 to n add
-unfoldable pub lane_so_far : Plan → (core n : ℕ) → List Message
-lane_so_far plan core n = flat_map (added plan core) (range_with_len 1 n)
-
--- the whole lane
-abbrev pub lane : Plan → (core : ℕ) → List Message
-lane plan core = lane_so_far plan core (frame_count plan) ++ End (frame_count plan) ∷ []
 
 -- the number up to which a message decides what a core will ever know by its own frames: a frame up to itself, a beacon
 -- up to the history before it, as later frames carry no earlier packets, and the end up to the last

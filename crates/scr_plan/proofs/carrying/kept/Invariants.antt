@@ -1,6 +1,8 @@
-use Rattle.std.proofs.Common.{◌≡◌, ℕ, ◌≤◌, ◌<◌, true}
-use Rattle.scr_plan.specs.Drops.{has_number}
+use Rattle.std.proofs.Common.{◌≡◌, ℕ, ◌≤◌, ◌<◌, false}
+use Rattle.scr_plan.specs.Plan.{Plan, HasParts}
+use Rattle.scr_plan.specs.Delivered.{delivers}
 use Rattle.scr_plan.proofs.carrying.kept.Given as goal
 
 abbrev pub invariant-loop-frame : goal.invariant-loop-frame
-invariant-loop-frame l = (n : ℕ) → l.p ≤ n → n < l.frame → has_number l.drops n ≡ true
+invariant-loop-frame l =
+    (plan : Plan) → HasParts plan l.drops l.h l.t → (n : ℕ) → l.p ≤ n → n < l.frame → delivers plan n ≡ false

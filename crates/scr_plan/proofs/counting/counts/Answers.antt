@@ -1,66 +1,132 @@
-use Rattle.std.proofs.Common.{◌≡◌, ◌≤◌, ◌-◌, true, false, sym, ◌∙◌, arith}
+use Rattle.std.proofs.Common.{◌≡◌, ◌≤◌, ◌-◌, ℕ, List, true, false, sym, ap, ◌∙◌, arith, refl, replicate, subst}
+use Rattle.std.proofs.lemmas.List.{length-replicate}
+use Rattle.scr_plan.specs.declared.drops.DropRange.{DropRange}
+use Rattle.scr_plan.specs.declared.counting.Tally.{Tally}
 use Rattle.scr_plan.specs.Drops.{has_number}
-use Rattle.scr_plan.proofs.Packets.{delivered-dropped, delivered_to-dropped, delivered_to-other, delivered-free, delivered_to-free}
-use Rattle.scr_plan.proofs.Tallies.{IsTally-none, IsTally-moved, IsTally-same, IsTally-skips_at, IsTally-counts_at}
+use Rattle.scr_plan.specs.Plan.{Plan, HasParts, frame_count}
+use Rattle.scr_plan.specs.Counts.{plan_counts}
+use Rattle.scr_plan.specs.Delivered.{delivers, core_number}
+use Rattle.scr_plan.proofs.Delivering.{delivered-dropped, delivered-free, delivered_to-undelivered, delivered_to-other, delivered_to-own}
+use Rattle.scr_plan.proofs.Tallies.{AreTallies, IsTally-none, IsTally-moved, IsTally-same, IsTally-skips_at, IsTally-counts_at}
 use Rattle.scr_plan.proofs.Totals.{IsCounted, IsCounted-from_tallies}
-use Rattle.std.proofs.Common.{refl}
 use Rattle.scr_plan.proofs.counting.counts.Goals as goal
 use Rattle.scr_plan.proofs.counting.counts.Goals.{then-core_of-core, else-core_of-core}
 
-pub loop-frame-init : goal.loop-frame-init
-loop-frame-init c = record {
-  own = IsTally-none _ _ _ refl refl refl;
-  all = IsTally-none _ _ _ refl refl refl;
+-- a plan with these parts
+some_plan : (drops : List DropRange) (cores history frames : ℕ) → Plan
+some_plan drops cores history frames = record {
+  rows = replicate frames (record { w0 = 0; w1 = 0; w2 = 0; w3 = 0; w4 = 0; w5 = 0; w6 = 0 });
+  cores = cores;
+  history = history;
+  drops = drops;
 }
 
+some_parts : (drops : List DropRange) (cores history frames : ℕ)
+    → HasParts (some_plan drops cores history frames) drops history frames × ((some_plan drops cores history frames).cores ≡ cores)
+unfolding some_plan
+some_parts drops cores history frames =
+    (record { drops_are = refl; history_is = refl; frames_are = length-replicate frames _ }, refl)
+
+-- what is counted so far
+tallies : (drops : List DropRange) (k h t core m : ℕ) (own all : Tally)
+    → ((plan : Plan) → HasParts plan drops h t → plan.cores ≡ k → AreTallies plan core h m own all)
+    → AreTallies (some_plan drops k h t) core h m own all
+tallies drops k h t core m own all are = let parts = some_parts drops k h t in are (some_plan drops k h t) parts.0 parts.1
+
+pub loop-frame-init : goal.loop-frame-init
+loop-frame-init c plan parts cores = record {
+  of_own = IsTally-none _ _ _ refl refl refl;
+  of_all = IsTally-none _ _ _ refl refl refl;
+}
+
+pub add-requires-clause-behind : goal.add-requires-clause-behind
+add-requires-clause-behind c =
+    let are = tallies _ _ _ _ _ _ _ _ c.loop-frame.invariant in
+    omega (arith, are.of_all.last)
+
+pub add-requires-clause-few_frames : goal.add-requires-clause-few_frames
+add-requires-clause-few_frames c = (tallies _ _ _ _ _ _ _ _ c.loop-frame.invariant).of_all.few_frames
+
+pub add-requires-clause-few_packets : goal.add-requires-clause-few_packets
+add-requires-clause-few_packets c = (tallies _ _ _ _ _ _ _ _ c.loop-frame.invariant).of_all.few_packets
+
+pub add-requires-then-core_of-core-clause-behind : goal.add-requires-then-core_of-core-clause-behind
+add-requires-then-core_of-core-clause-behind c =
+    let are = tallies _ _ _ _ _ _ _ _ c.loop-frame.invariant in
+    omega (arith, are.of_own.last)
+
+pub add-requires-then-core_of-core-clause-few_frames : goal.add-requires-then-core_of-core-clause-few_frames
+add-requires-then-core_of-core-clause-few_frames c = (tallies _ _ _ _ _ _ _ _ c.loop-frame.invariant).of_own.few_frames
+
+pub add-requires-then-core_of-core-clause-few_packets : goal.add-requires-then-core_of-core-clause-few_packets
+add-requires-then-core_of-core-clause-few_packets c = (tallies _ _ _ _ _ _ _ _ c.loop-frame.invariant).of_own.few_packets
+
 pub loop-frame-preserved-then-has : goal.loop-frame-preserved-then-has
-loop-frame-preserved-then-has c =
-    let drops = c.args.drops.now in
+loop-frame-preserved-then-has c plan parts cores =
     let f = c.loop-frame.frame in
-    let dropped : has_number drops f ≡ true = sym c.has.ensures.answer ∙ c.if-has.true in
+    let before = c.loop-frame.invariant plan parts cores in
+    let dropped : delivers plan f ≡ false =
+    delivered-dropped plan f
+    (ap (λ (drops : List DropRange). has_number drops f) parts.drops_are ∙ sym c.has.ensures.answer ∙ c.if-has.true) in
     record {
-      own = IsTally-skips_at _ _ f _ (omega arith) (delivered_to-dropped drops _ _ _ f dropped) c.loop-frame.invariant.own;
-      all = IsTally-skips_at _ _ f _ (omega arith) (delivered-dropped drops _ f dropped) c.loop-frame.invariant.all;
+      of_own = IsTally-skips_at _ _ f _ (omega arith) (delivered_to-undelivered plan c.args.core f dropped) before.of_own;
+      of_all = IsTally-skips_at _ _ f _ (omega arith) dropped before.of_all;
     }
 
 pub loop-frame-preserved : goal.loop-frame-preserved
-loop-frame-preserved c =
-    let drops = c.args.drops.now in
+loop-frame-preserved c plan parts cores =
     let f = c.loop-frame.frame in
-    let free : has_number drops f ≡ false = sym c.has.ensures.answer ∙ c.if-has.false in
+    let before = c.loop-frame.invariant plan parts cores in
     let from : 1 ≤ f = omega arith in
-    let within : f ≤ c.args.t = omega arith in
-    let of_core = c.core_of.ensures in
+    let frames = parts.frames_are in
+    let goes : delivers plan f ≡ true =
+    delivered-free plan f from (omega arith)
+    (ap (λ (drops : List DropRange). has_number drops f) parts.drops_are ∙ sym c.has.ensures.answer ∙ c.if-has.false) in
+    let of_core : c.core_of.result ≡ core_number plan.cores f = c.core_of.ensures ∙ ap (λ (k : ℕ). core_number k f) (sym cores) in
     record {
-      own =
+      of_own =
           elim c.if-core_of-core.branch [
             | then-core_of-core w ↦ IsTally-same _ _ _ _ _ w.own-is
-                (IsTally-counts_at _ _ f _ _ from
-                (delivered_to-free drops c.args.k c.args.t c.args.core f from within free (sym of_core ∙ w.if-core_of-core.true))
-                c.loop-frame.invariant.own w.add-then-core_of-core.ensures.frames w.add-then-core_of-core.ensures.packets
+                (IsTally-counts_at _ _ f _ _ from (delivered_to-own plan c.args.core f goes (sym of_core ∙ w.if-core_of-core.true))
+                before.of_own w.add-then-core_of-core.ensures.frames w.add-then-core_of-core.ensures.packets
                 w.add-then-core_of-core.ensures.last)
             | else-core_of-core w ↦ IsTally-same _ _ _ _ _ w.own-is
                 (IsTally-skips_at _ _ f _ from
-                (delivered_to-other drops c.args.k c.args.t c.args.core f (λ same. w.if-core_of-core.false (of_core ∙ same)))
-                c.loop-frame.invariant.own)
+                (delivered_to-other plan c.args.core f (λ same. w.if-core_of-core.false (of_core ∙ same)))
+                before.of_own)
           ];
-      all =
-          IsTally-counts_at _ _ f _ _ from (delivered-free drops c.args.t f from within free) c.loop-frame.invariant.all
-          c.add.ensures.frames c.add.ensures.packets c.add.ensures.last;
+      of_all = IsTally-counts_at _ _ f _ _ from goes before.of_all c.add.ensures.frames c.add.ensures.packets c.add.ensures.last;
     }
 
-counted : (c : goal.After-loop-frame)
-    → IsCounted c.args.drops.now c.args.k c.args.h c.args.t c.args.core c.loop-frame.own c.loop-frame.all
-counted c =
-    let end : c.loop-frame.frame - 1 ≡ c.args.t = omega arith in
-    IsCounted-from_tallies _ _ _ _ _ _ _ (IsTally-moved _ _ _ _ _ end c.loop-frame.invariant.own)
-    (IsTally-moved _ _ _ _ _ end c.loop-frame.invariant.all)
+counted : (c : goal.After-loop-frame) (plan : Plan) → HasParts plan c.args.drops.now c.args.h c.args.t → plan.cores ≡ c.args.k
+    → IsCounted plan c.args.core c.loop-frame.own c.loop-frame.all
+counted c plan parts cores =
+    let frames = parts.frames_are in
+    let end : c.loop-frame.frame - 1 ≡ frame_count plan = omega arith in
+    let are = subst (λ (h : ℕ). AreTallies plan c.args.core h (c.loop-frame.frame - 1) c.loop-frame.own c.loop-frame.all)
+    (sym parts.history_is) (c.loop-frame.invariant plan parts cores) in
+    IsCounted-from_tallies _ _ _ _ (IsTally-moved _ _ _ _ _ end are.of_own) (IsTally-moved _ _ _ _ _ end are.of_all)
+
+some_counted : (c : goal.After-loop-frame)
+    → IsCounted (some_plan c.args.drops.now c.args.k c.args.h c.args.t) c.args.core c.loop-frame.own c.loop-frame.all
+some_counted c =
+    let parts = some_parts c.args.drops.now c.args.k c.args.h c.args.t in
+    counted c (some_plan c.args.drops.now c.args.k c.args.h c.args.t) parts.0 parts.1
 
 pub overflow_sub-result : goal.overflow_sub-result
-overflow_sub-result c = (counted c).fewer
+overflow_sub-result c = (some_counted c).fewer
 
 pub overflow_sub-result-2 : goal.overflow_sub-result-2
-overflow_sub-result-2 c = (counted c).within
+overflow_sub-result-2 c =
+    let frames = (some_parts c.args.drops.now c.args.k c.args.h c.args.t).0.frames_are in
+    omega (arith, (some_counted c).within, frames)
 
 pub returns : goal.returns
-returns c = (counted c).result
+returns c plan parts cores =
+    let result = (counted c plan parts cores).result in
+    subst (λ (t : ℕ). record {
+      delivered = c.loop-frame.own.frames;
+      carried = c.loop-frame.own.packets;
+      recovered = c.loop-frame.all.packets - c.loop-frame.own.packets;
+      skipped = t - c.loop-frame.all.packets;
+    } ≡ plan_counts plan c.args.core) parts.frames_are result

@@ -1,10 +1,8 @@
-use Rattle.std.proofs.Common.{◌-◌}
-use Rattle.scr_plan.specs.Delivered.{delivered, delivered_to}
-use Rattle.scr_plan.proofs.Tallies.{IsTally}
+use Rattle.std.proofs.Common.{◌≡◌, ◌-◌}
+use Rattle.scr_plan.specs.Plan.{Plan, HasParts}
+use Rattle.scr_plan.proofs.Tallies.{AreTallies}
 use Rattle.scr_plan.proofs.counting.counts.Given as goal
 
 abbrev pub invariant-loop-frame : goal.invariant-loop-frame
-invariant-loop-frame l = record {
-  own : IsTally (λ n. delivered_to l.drops l.k l.t l.core n) l.h (l.frame - 1) l.own;
-  all : IsTally (λ n. delivered l.drops l.t n) l.h (l.frame - 1) l.all;
-}
+invariant-loop-frame l =
+    (plan : Plan) → HasParts plan l.drops l.h l.t → plan.cores ≡ l.k → AreTallies plan l.core l.h (l.frame - 1) l.own l.all

@@ -1,6 +1,6 @@
 use Rattle.std.proofs.Common.{◌≡◌, ◌+◌, ◌-◌, ℕ, [], get_or, true, arith, ap, sym, subst}
 use Rattle.std.proofs.lemmas.List.{get_or_default}
-use Rattle.scr_plan.specs.Plan.{delivers}
+use Rattle.scr_plan.specs.Delivered.{delivers}
 use Rattle.scr_wire.specs.Lane.{frame}
 use Rattle.scr_wire.specs.Spelling.{Spells, number_of}
 use Rattle.scr_replica.specs.Entries.{Knows}

@@ -1,6 +1,6 @@
 use Rattle.std.proofs.Common.{◌≡◌, ◌≤◌, map, arith, ap, ◌∙◌}
 use Rattle.std.specs.List.{range_with_len}
-use Rattle.scr_plan.specs.Plan.{plan_counts}
+use Rattle.scr_plan.specs.Counts.{plan_counts}
 use Rattle.scr_replica.specs.Answers.{CoreAnswer}
 use Rattle.scr_replica.specs.OneCore.{verdicts, entries}
 use Rattle.scr_replica.proofs.InOrder.{courses_of, counts_of, flows_of}

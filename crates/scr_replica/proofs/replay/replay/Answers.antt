@@ -4,11 +4,12 @@ use Rattle.std.specs.Option.{option_map, option_copied}
 use Rattle.scr_base.specs.declared.row.Row.{Row}
 use Rattle.scr_plan.specs.declared.counting.CoreCounts.{CoreCounts}
 use Rattle.scr_plan.specs.declared.given.Given.{Given}
-use Rattle.scr_plan.specs.Plan.{Plan, frame_count, plan_counts}
+use Rattle.scr_plan.specs.Plan.{Plan, frame_count}
+use Rattle.scr_plan.specs.Counts.{plan_counts}
 use Rattle.scr_replica.specs.declared.entry.Entry.{Entry}
 use Rattle.scr_replica.specs.Entries.{row_in, is_delivered, entry_of, entries_up_to}
 use Rattle.scr_replica.specs.OneCore.{kept_row, kept_rows, course_up_to, course, entries}
-use Rattle.scr_replica.specs.Answers.{counts_up_to}
+use Rattle.scr_plan.specs.Counts.{counts_up_to}
 use Rattle.scr_replica.proofs.Knowing.{length-entries}
 use Rattle.scr_replica.proofs.Packets.{is_some-kept_row, is_some-entry, is_delivered-entry}
 use Rattle.scr_replica.proofs.Found.{entry_at, known_of_entry}

@@ -1,7 +1,7 @@
 -- The packets so far were taken.
 use Rattle.std.proofs.Common.{◌≡◌}
 use Rattle.scr_replica.specs.OneCore.{kept_rows, course_up_to}
-use Rattle.scr_replica.specs.Answers.{counts_up_to}
+use Rattle.scr_plan.specs.Counts.{counts_up_to}
 use Rattle.scr_replica.proofs.replay.replay.Given as goal
 
 abbrev pub invariant-loop-place : goal.invariant-loop-place

@@ -1,7 +1,7 @@
-use Rattle.std.proofs.Common.{◌≡◌, true, length, ap, ◌∙◌, sym, arith}
+use Rattle.std.proofs.Common.{◌≡◌, true, length, ap, ◌∙◌, sym, arith, refl}
 use Rattle.scr_replica.specs.OneCore.{verdicts, undivided}
 use Rattle.scr_replica.proofs.Undivided.{length-verdicts, entries-undivided}
-use Rattle.scr_replica.proofs.Counted.{delivered_count-undivided, kept_count-undivided}
+use Rattle.scr_replica.proofs.Counted.{delivered_count-all, kept_count-all}
 use Rattle.scr_report.specs.Outcome.{Outcome, report_text, totals_of}
 use Rattle.scr_run.specs.Rules.{Rules, ruled_by}
 use Rattle.scr_run.specs.RunReport.{rows_of, plain_text}
@@ -34,6 +34,6 @@ returns-clause-ends g c =
     let rows = rows_of row_of records in
     let counted : frames ≡ length rows = omega (arith, c.len-frames.ensures, ap length holds.0, length-verdicts verdict_after rows) in
     ap (λ (o : Outcome). report_text names o true)
-    (counted-outcome names outcome _ _ _ _ _ _ holds.0 counted (counted ∙ sym (delivered_count-undivided (length rows)))
-    (counted ∙ sym (kept_count-undivided 0 (length rows))) c.new.ensures.items (c.flows.ensures rows holds.1 ∙ sym (entries-undivided count_after rows)))) in
+    (counted-outcome names outcome _ _ _ _ _ _ holds.0 counted (counted ∙ sym (delivered_count-all (undivided rows) refl))
+    (counted ∙ sym (kept_count-all (undivided rows) refl)) c.new.ensures.items (c.flows.ensures rows holds.1 ∙ sym (entries-undivided count_after rows)))) in
     Ends-writing _ _ g.S.Source.left g.S.Source.faults g.O.Sink.written g.O.Sink.faults _ _ _ _ c.write_found.result is c.in_ok-state.ensures.end c.write_found.ensures.ends

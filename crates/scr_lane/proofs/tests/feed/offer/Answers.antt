@@ -1,5 +1,6 @@
 use Rattle.std.proofs.Common.{◌≡◌, ◌+◌, ℕ, cond, length, refl, ap, ◌∙◌, add-zero, arith}
-use Rattle.scr_wire.specs.Lane.{has_beacon, lane_so_far}
+use Rattle.scr_plan.specs.Order.{has_beacon}
+use Rattle.scr_wire.specs.Lane.{lane_so_far}
 use Rattle.scr_lane.proofs.NextMessage.{next_is_beacon, next_is_frame, count_next}
 use Rattle.scr_lane.proofs.tests.feed.offer.Goals as goal
 

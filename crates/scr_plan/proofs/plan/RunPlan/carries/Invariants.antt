@@ -1,5 +1,5 @@
 use Rattle.std.proofs.Common.{◌≡◌, ◌≤◌, ◌<◌, ℕ, false}
-use Rattle.scr_plan.specs.Plan.{delivers_to}
+use Rattle.scr_plan.specs.Delivered.{delivers_to}
 use Rattle.scr_plan.proofs.plan.RunPlan.carries.Given as goal
 
 abbrev pub invariant-loop-frame : goal.invariant-loop-frame
