@@ -39,5 +39,5 @@ pub use error::CaptureError;
 pub use format::{Format, Fraction, Order};
 pub use frame::FrameBuf;
 pub use generated::generate;
-pub use laws::{one_reading, some_reading};
+pub use laws::{most_bytes, one_reading, some_reading};
 pub use reader::{Progress, Reader, RecordInfo};

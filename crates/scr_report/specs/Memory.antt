@@ -1,5 +1,5 @@
 -- Which errors tell of want of memory, and which of the text.
-use Rattle.std.specs.Prelude.{⊤, ⊥}
+use Rattle.std.specs.Prelude.{⊤}
 use Rattle.scr_report.specs.declared.report.ReportError.{ReportError}
 use Rattle.scr_report.specs.declared.report.ReportError.TheVariants.{Line, Ended, OutOfMemory}
 
