@@ -82,6 +82,11 @@ Reads-at text i reads =
 Ok-is : (read : Result DropRange DropCause) (range : DropRange) → read ≡ Ok range → IsOk read
 Ok-is read range is = subst IsOk (sym is) refl
 
+-- an empty list has no fault
+pub drop_list_fault-empty : drop_list_fault [] ≡ None
+unfolding drop_list_fault
+drop_list_fault-empty = refl
+
 pub drop_list_fault-none : (text : List ℕ) (ranges : List DropRange) → Spells text ranges → drop_list_fault text ≡ None
 unfolding drop_list_fault
 drop_list_fault-none [] ranges spells = refl
@@ -105,4 +110,4 @@ drop_list_fault-refused (byte ∷ text) refusal place refused =
 
 pub Tells-refused : (text : List ℕ) (error : DropError) → RefusedBy text error → Tells (drop_list_fault text) (Err (drop_error error))
 Tells-refused text (Refused refusal place) refused = drop_list_fault-refused text refusal place refused
-Tells-refused text OutOfMemory refused = tt
+Tells-refused text (OutOfMemory want) refused = tt

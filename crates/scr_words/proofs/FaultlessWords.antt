@@ -1,7 +1,7 @@
 -- What follows where no operand has a fault.
 use Rattle.std.proofs.Common.{◌≡◌, ◌⊎◌, inl, inr, ℕ, suc, ◌+◌, ◌<◌, List, [], ◌∷◌, length, get_or, Bool, true, false, cond, not, Option, Some, None, refl, ap, ◌∙◌, subst, arith}
 use Rattle.std.specs.List.{find, list_any}
-use Rattle.std.specs.Prelude.{option_map, option_and_then, codes}
+use Rattle.std.specs.Prelude.{option_map, option_and_then}
 use Rattle.std.specs.Str.{bytes_eq}
 use Rattle.std.proofs.lemmas.Bool.{and_parts}
 use Rattle.std.proofs.lemmas.Slice.Eq.{bytes_eq-Decides}
@@ -101,7 +101,7 @@ pub IsMissing-from : (command : Command) (operands : List (List ℕ)) (fault : W
     → fault.cause ≡ Missing → fault.word ≡ length operands + 2 → IsMissing command operands fault
 IsMissing-from command operands fault faultless none cause number = record {
   faultless = faultless;
-  none = given-none (given (codes "program") operands) (HaveFaultlessValues-from command operands faultless operand.Program) none;
+  none = given-none (given (table operand.Program).name operands) (HaveFaultlessValues-from command operands faultless operand.Program) none;
   cause = cause;
   number = number;
 }

@@ -2,4 +2,7 @@ pub mod GivenValues
 pub mod DropListFaults
 pub mod OperandFaults
 pub mod FaultlessWords
+pub mod FaultlessValues
+pub mod ChosenSettings
 pub mod OneAnswer
+pub mod SomeAnswer

@@ -1,6 +1,6 @@
 -- Words are accepted or refused, never both, and are refused with one fault.
-use Rattle.std.proofs.Common.{◌≡◌, ◌⊎◌, inl, inr, ℕ, ◌<◌, List, [], ◌∷◌, Option, Some, None, MatchOption, sym, ap, ◌∙◌, arith}
-use Rattle.std.specs.Prelude.{option_and_then, codes}
+use Rattle.std.proofs.Common.{Result, Ok, Err, ◌≡◌, ◌⊎◌, inl, inr, ℕ, ◌<◌, List, [], ◌∷◌, Option, Some, None, MatchOption, sym, ap, ◌∙◌, arith}
+use Rattle.std.specs.Prelude.{option_and_then}
 use Rattle.std.proofs.lemmas.Option.{MatchOption-at_some}
 use Rattle.scr_words.specs.declared.word_fault.WordCause.{WordCause}
 use Rattle.scr_words.specs.declared.word_fault.WordFault.{WordFault}
@@ -9,10 +9,14 @@ use Rattle.scr_words.specs.declared.settings.ProgramSettings.{ProgramSettings}
 use Rattle.scr_words.specs.declared.settings.ProgramSettings.TheVariants.{Ddos, Heavy, Bucket, Knock, Conn}
 use Rattle.scr_words.specs.declared.settings.RunSettings.{RunSettings}
 use Rattle.scr_words.specs.declared.operand.ProgramName.{ProgramName}
-use Rattle.scr_words.specs.Operands.{command_named, program_named}
+use Rattle.scr_words.specs.declared.operand.Operand.TheVariants as operand
+use Rattle.scr_words.specs.Operands.{command_named, program_named, table}
 use Rattle.scr_words.specs.WordParts.{given}
 use Rattle.scr_words.specs.WordFaults.{fault_at, AreFaultless, IsFirstFault, IsMissing, AreRefused}
 use Rattle.scr_words.specs.GivenSettings.{HasProgram, AreAccepted}
+use Rattle.scr_words.specs.Answers.{IsAnswer}
+use Rattle.scr_words.proofs.FaultlessWords.{HaveFaultlessValues-from}
+use Rattle.scr_words.proofs.ChosenSettings.{AreChosen-same}
 
 -- two faults that are one
 abbrev IsSameFault : WordFault → WordFault → Type 0
@@ -73,7 +77,7 @@ chosen-given : (found : Option (List ℕ)) (program : ProgramName) → option_an
 chosen-given None program is none = cc
 chosen-given (Some name) program is none = cc
 
-program-given : (operands : List (List ℕ)) (settings : ProgramSettings) → HasProgram operands settings → given (codes "program") operands ≡ None → ⊥
+program-given : (operands : List (List ℕ)) (settings : ProgramSettings) → HasProgram operands settings → given (table operand.Program).name operands ≡ None → ⊥
 program-given operands (Ddos settings) has none = chosen-given _ _ has.0 none
 program-given operands (Heavy settings) has none = chosen-given _ _ has.0 none
 program-given operands (Bucket settings) has none = chosen-given _ _ has.0 none
@@ -85,8 +89,25 @@ not_refused : (command : Command) (operands : List (List ℕ)) (settings : Progr
 not_refused command operands settings fault faultless has (inl first) = not_first command operands fault faultless first
 not_refused command operands settings fault faultless has (inr missing) = program-given operands settings has missing.none
 
+Some-command : (a b : Command) (x : Option Command) → x ≡ Some a → x ≡ Some b → a ≡ b
+Some-command a b x is_a is_b = cc
+
 pub AreAccepted-not_refused : (words : List (List ℕ)) (settings : RunSettings) (fault : WordFault) → AreAccepted words settings → AreRefused words fault → ⊥
 AreAccepted-not_refused [] settings fault accepted refused = accepted
 AreAccepted-not_refused (first ∷ operands) settings fault accepted refused =
     not_refused settings.command operands settings.program fault accepted.faultless accepted.chosen_are.program
     (MatchOption-at_some _ _ settings.command accepted.command refused)
+
+AreAccepted-same : (words : List (List ℕ)) (a b : RunSettings) → AreAccepted words a → AreAccepted words b → a ≡ b
+AreAccepted-same [] a b one other = absurd one
+AreAccepted-same (first ∷ operands) a b one other =
+    AreChosen-same operands a b (HaveFaultlessValues-from a.command operands one.faultless)
+    (Some-command a.command b.command (command_named first) one.command other.command) one.chosen_are other.chosen_are
+
+pub one_answer : (words : List (List ℕ)) (one other : Result RunSettings WordFault) → IsAnswer words one → IsAnswer words other → one ≡ other
+one_answer words (Ok a) (Ok b) one other = ap Ok (AreAccepted-same words a b one other)
+one_answer words (Ok settings) (Err fault) one other = absurd (AreAccepted-not_refused words settings fault one other)
+one_answer words (Err fault) (Ok settings) one other = absurd (AreAccepted-not_refused words settings fault other one)
+one_answer words (Err a) (Err b) one other =
+    let (word, cause) = AreRefused-same words a b one other in
+    ap Err (λ i. record { word = word i; cause = cause i })

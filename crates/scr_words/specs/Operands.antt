@@ -4,6 +4,7 @@ use Rattle.std.specs.Prelude.{ℕ, ◌≤◌, ⊤, Bool, true, false, List, [], 
 use Rattle.std.specs.List.{find}
 use Rattle.std.specs.Option.{option_map_or}
 use Rattle.std.specs.Str.{bytes_eq}
+use Rattle.scr_words.specs.Limits.{most_flows, most_cores, most_history, most_ring, most_frames, most_hosts}
 use Rattle.scr_words.specs.declared.settings.Command.{Command}
 use Rattle.scr_words.specs.declared.settings.Command.TheVariants.{Run, Plain, Load}
 use Rattle.scr_words.specs.declared.operand.ProgramName.{ProgramName}
@@ -54,15 +55,15 @@ line name taker form default = record { name = name; taker = taker; form = form;
 -- The table. A program has no default, and the default history is one less than the cores.
 abbrev pub table : Operand → Line
 table operand.Program = line (codes "program") taker.Every OneProgram []
-table operand.Flows = line (codes "flows") taker.Every (Number 1 65536) (codes "4096")
-table operand.Cores = line (codes "cores") taker.WithCores (Number 1 16) (codes "1")
-table operand.History = line (codes "history") taker.WithCores (Number 0 64) []
+table operand.Flows = line (codes "flows") taker.Every (Number 1 most_flows) (codes "4096")
+table operand.Cores = line (codes "cores") taker.WithCores (Number 1 most_cores) (codes "1")
+table operand.History = line (codes "history") taker.WithCores (Number 0 most_history) []
 table operand.Drop = line (codes "drop") taker.WithCores DropList []
-table operand.Ring = line (codes "ring") taker.WithCores (Number 1 4096) (codes "1024")
+table operand.Ring = line (codes "ring") taker.WithCores (Number 1 most_ring) (codes "1024")
 table operand.Threads = line (codes "threads") taker.WithCores YesNo (codes "yes")
 table operand.Start = line (codes "start") taker.LoadAlone (Number 0 18446744073709551615) (codes "0")
-table operand.Frames = line (codes "frames") taker.LoadAlone (Number 0 1000000) (codes "1000")
-table operand.Hosts = line (codes "hosts") taker.LoadAlone (Number 1 65536) (codes "16")
+table operand.Frames = line (codes "frames") taker.LoadAlone (Number 0 most_frames) (codes "1000")
+table operand.Hosts = line (codes "hosts") taker.LoadAlone (Number 1 most_hosts) (codes "16")
 table operand.Threshold = line (codes "threshold") (taker.Program Ddos) (Number 0 4294967295) (codes "1000")
 table operand.Bytes = line (codes "bytes") (taker.Program Heavy) (Number 1 1000000000000) (codes "1000000")
 table operand.Rate = line (codes "rate") (taker.Program Bucket) (Number 0 1000000000) (codes "1000")
@@ -109,23 +110,14 @@ is_taken command chosen (taker.Program program) = option_map_or (is_same program
 
 -- a number's form has its ends in order
 abbrev pub IsOrdered : Form → Type 0
-IsOrdered OneProgram = ⊤
 IsOrdered (Number least greatest) = least ≤ greatest
-IsOrdered DropList = ⊤
-IsOrdered YesNo = ⊤
-IsOrdered ThreePorts = ⊤
+IsOrdered _ = ⊤
 
 -- the value is a number; and it is this one, within the form's range
 abbrev pub is_numeric : Form → Bool
-is_numeric OneProgram = false
 is_numeric (Number least greatest) = true
-is_numeric DropList = false
-is_numeric YesNo = false
-is_numeric ThreePorts = false
+is_numeric _ = false
 
 abbrev pub IsWithin : Form → ℕ → Type 0
-IsWithin OneProgram number = ⊥
 IsWithin (Number least greatest) number = (least ≤ number) × (number ≤ greatest)
-IsWithin DropList number = ⊥
-IsWithin YesNo number = ⊥
-IsWithin ThreePorts number = ⊥
+IsWithin _ number = ⊥

@@ -17,6 +17,7 @@ use Rattle.scr_words.specs.declared.word_fault.WordFault.{WordFault}
 use Rattle.scr_words.specs.declared.settings.Command.{Command}
 use Rattle.scr_words.specs.declared.operand.ProgramName.{ProgramName}
 use Rattle.scr_words.specs.declared.operand.Operand.{Operand}
+use Rattle.scr_words.specs.declared.operand.Operand.TheVariants as operand
 use Rattle.scr_words.specs.declared.operand.Form.{Form}
 use Rattle.scr_words.specs.declared.operand.Form.TheVariants.{OneProgram, Number, DropList, YesNo, ThreePorts}
 use Rattle.scr_words.specs.Operands.{table, operand_named, command_named, program_named, is_taken}
@@ -90,7 +91,7 @@ pub record IsFirstFault (command : Command) (operands : List (List ℕ)) (fault 
 -- no operand has a fault, and none names a program: one word more is missing
 pub record IsMissing (command : Command) (operands : List (List ℕ)) (fault : WordFault) : Type 0 where
   pub faultless : AreFaultless command operands
-  pub none : given (codes "program") operands ≡ None
+  pub none : given (table operand.Program).name operands ≡ None
   pub cause : fault.cause ≡ cause.Missing
   pub number : fault.word ≡ length operands + 2
 

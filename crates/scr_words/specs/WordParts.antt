@@ -1,10 +1,11 @@
 -- A word as an operand: a name and a value, parted by the first `=`.
-use Rattle.std.specs.Prelude.{ℕ, Bool, ◌&&◌, List, Option, option_map, option_and_then, codes}
+use Rattle.std.specs.Prelude.{ℕ, Bool, ◌&&◌, List, Option, option_map, option_and_then}
 use Rattle.std.specs.List.{find}
 use Rattle.std.specs.Str.{bytes_eq}
 use Rattle.scr_plan.specs.Spelling.{has_byte, in_front, behind}
 use Rattle.scr_words.specs.declared.operand.ProgramName.{ProgramName}
-use Rattle.scr_words.specs.Operands.{program_named}
+use Rattle.scr_words.specs.declared.operand.Operand.TheVariants as operand
+use Rattle.scr_words.specs.Operands.{program_named, table}
 
 abbrev pub has_equals : List ℕ → Bool
 has_equals word = has_byte 61 word
@@ -25,4 +26,4 @@ given name words = option_map value_in (find (is_named name) words)
 
 -- the program that the words choose: the value of the first that begins with `program=`, where it is one of the names
 abbrev pub chosen : List (List ℕ) → Option ProgramName
-chosen words = option_and_then program_named (given (codes "program") words)
+chosen words = option_and_then program_named (given (table operand.Program).name words)

@@ -16,22 +16,22 @@ use Rattle.scr_words.specs.WordFaults.{value_fault, IsFirstFault, AreRefused}
 
 abbrev pub drop_error : DropError → TestError
 drop_error (drop.Refused refusal place) = test.Refused (cause.Drop refusal place)
-drop_error drop.OutOfMemory = test.OutOfMemory
+drop_error (drop.OutOfMemory want) = test.OutOfMemory want
 
 -- a test passes where there is no fault, and refuses with the fault that there is, unless memory runs out
 abbrev pub Tells : Option WordCause → Result (Unit {0}) TestError → Type 0
 Tells fault (Ok passed) = fault ≡ None
 Tells fault (Err (test.Refused cause)) = fault ≡ Some cause
-Tells fault (Err test.OutOfMemory) = Unit {0}
+Tells fault (Err (test.OutOfMemory want)) = Unit {0}
 
 -- the error of words that aren't accepted
 abbrev pub IsFirstFaultBy : Command → List (List ℕ) → WordsError → Type 0
 IsFirstFaultBy command operands (words.Refused fault) = IsFirstFault command operands fault
-IsFirstFaultBy command operands words.OutOfMemory = Unit {0}
+IsFirstFaultBy command operands (words.OutOfMemory want) = Unit {0}
 
 abbrev pub AreRefusedBy : List (List ℕ) → WordsError → Type 0
 AreRefusedBy given (words.Refused fault) = AreRefused given fault
-AreRefusedBy given words.OutOfMemory = Unit {0}
+AreRefusedBy given (words.OutOfMemory want) = Unit {0}
 
 -- each value that the words give passes the test of its form
 abbrev pub HaveFaultlessValues : List (List ℕ) → Type 0

@@ -16,7 +16,7 @@ use scr_conn::ConnSettings;
 use scr_ddos::DdosSettings;
 use scr_heavy::HeavySettings;
 use scr_knock::KnockSettings;
-use scr_plan::Drops;
+use scr_plan::{DropError, Drops};
 use std::alloc::Global;
 
 /// The settings that operands choose, all of which passed their tests.
@@ -111,10 +111,14 @@ fn history(cores: u32, operands: &[Word]) -> u32
 }
 
 fn drop_list(alloc: Global, operands: &[Word]) -> Result<Drops, OutOfMemory>
+    requires values { HaveFaultlessValues operands.now }
     ensures { IfOk result (Spells (value_for Operand.Drop operands.now)) }
 {
-    // The list was tested, so only memory can be missing.
-    Drops::read(alloc, value(Operand::Drop, operands)).map_err(|_| OutOfMemory)
+    match Drops::read(alloc, value(Operand::Drop, operands)) {
+        Ok(drops) => Ok(drops),
+        Err(DropError::OutOfMemory(want)) => Err(want),
+        Err(DropError::Refused { .. }) => unreachable!(),
+    }
 }
 
 // The value that the words give an operand, or its default.

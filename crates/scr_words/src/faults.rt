@@ -8,19 +8,19 @@ use crate::parts::{chosen, is_named, parts_of};
 use crate::reading::WordsError;
 use crate::settings::Command;
 use crate::word_fault::{WordCause, WordFault};
-use scr_base::Word;
+use scr_base::{OutOfMemory, Word};
 use scr_knock::KnockSettings;
 use scr_plan::{DropError, Drops};
 use scr_program::{SettingError, read_setting};
 use std::alloc::Global;
 
 /// Why the test of a word didn't pass.
-#[derive(Clone, Copy, Debug, PartialEq, Eq)]
+#[derive(Clone, Copy)]
 pub(crate) enum TestError {
     /// The word is refused.
     Refused(WordCause),
     /// There was no memory for the test.
-    OutOfMemory,
+    OutOfMemory(OutOfMemory),
 }
 
 impl From<SettingError> for TestError {
@@ -50,7 +50,7 @@ impl From<DropError> for TestError {
             DropError::Refused { cause, place } => {
                 TestError::Refused(WordCause::Drop { cause, place })
             }
-            DropError::OutOfMemory => TestError::OutOfMemory,
+            DropError::OutOfMemory(want) => TestError::OutOfMemory(want),
         }
     }
 }
@@ -73,7 +73,7 @@ pub(crate) fn test_operands(
                 let word = place as u32 + 2;
                 return Err(WordsError::Refused(WordFault { word, cause }));
             }
-            Err(TestError::OutOfMemory) => return Err(WordsError::OutOfMemory),
+            Err(TestError::OutOfMemory(want)) => return Err(want.into()),
         }
     }
     Ok(())

@@ -16,6 +16,7 @@
 
 mod choosing;
 mod faults;
+mod laws;
 mod operand;
 mod parts;
 mod reading;
@@ -25,6 +26,7 @@ mod tests;
 mod word_fault;
 mod word_line;
 
+pub use laws::{one_answer, some_answer};
 pub use reading::{WordsError, read_words};
 pub use settings::{Command, ProgramSettings, RunSettings, Shape};
 pub use word_fault::{WordCause, WordFault};

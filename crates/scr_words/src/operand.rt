@@ -3,10 +3,17 @@ ghost use Rattle.scr_words.specs.Operands.{command_name, program_name, command_n
 
 use crate::settings::Command;
 
+const MOST_FLOWS: u64 = 65_536;
+const MOST_CORES: u64 = 16;
+const MOST_HISTORY: u64 = 64;
+const MOST_RING: u64 = 4096;
+const MOST_FRAMES: u64 = 1_000_000;
+const MOST_HOSTS: u64 = 65_536;
+
 const COMMANDS: [Command; 3] = [Command::Run, Command::Plain, Command::Load];
 
 /// The packet programs, as words name them.
-#[derive(Clone, Copy, Debug, PartialEq, Eq)]
+#[derive(Clone, Copy, PartialEq, Eq)]
 pub(crate) enum ProgramName {
     Ddos,
     Heavy,
@@ -24,7 +31,7 @@ const PROGRAMS: [ProgramName; 5] = [
 ];
 
 /// What may stand before the first `=` of a word.
-#[derive(Clone, Copy, Debug, PartialEq, Eq)]
+#[derive(Clone, Copy)]
 pub(crate) enum Operand {
     Program,
     Flows,
@@ -64,7 +71,7 @@ const OPERANDS: [Operand; 16] = [
 ];
 
 /// Who takes an operand.
-#[derive(Clone, Copy, Debug, PartialEq, Eq)]
+#[derive(Clone, Copy)]
 pub(crate) enum Taker {
     /// Each command.
     Every,
@@ -77,7 +84,7 @@ pub(crate) enum Taker {
 }
 
 /// What the value of an operand is.
-#[derive(Clone, Copy, Debug, PartialEq, Eq)]
+#[derive(Clone, Copy)]
 pub(crate) enum Form {
     /// The name of a program.
     OneProgram,
@@ -126,15 +133,15 @@ impl Operand {
         let conn = Taker::Program(ProgramName::Conn);
         match self {
             Operand::Program => line(b"program", Taker::Every, Form::OneProgram, b""),
-            Operand::Flows => line(b"flows", Taker::Every, number(1, 65_536), b"4096"),
-            Operand::Cores => line(b"cores", Taker::WithCores, number(1, 16), b"1"),
-            Operand::History => line(b"history", Taker::WithCores, number(0, 64), b""),
+            Operand::Flows => line(b"flows", Taker::Every, number(1, MOST_FLOWS), b"4096"),
+            Operand::Cores => line(b"cores", Taker::WithCores, number(1, MOST_CORES), b"1"),
+            Operand::History => line(b"history", Taker::WithCores, number(0, MOST_HISTORY), b""),
             Operand::Drop => line(b"drop", Taker::WithCores, Form::DropList, b""),
-            Operand::Ring => line(b"ring", Taker::WithCores, number(1, 4096), b"1024"),
+            Operand::Ring => line(b"ring", Taker::WithCores, number(1, MOST_RING), b"1024"),
             Operand::Threads => line(b"threads", Taker::WithCores, Form::YesNo, b"yes"),
             Operand::Start => line(b"start", Taker::LoadAlone, number(0, u64::MAX), b"0"),
-            Operand::Frames => line(b"frames", Taker::LoadAlone, number(0, 1_000_000), b"1000"),
-            Operand::Hosts => line(b"hosts", Taker::LoadAlone, number(1, 65_536), b"16"),
+            Operand::Frames => line(b"frames", Taker::LoadAlone, number(0, MOST_FRAMES), b"1000"),
+            Operand::Hosts => line(b"hosts", Taker::LoadAlone, number(1, MOST_HOSTS), b"16"),
             Operand::Threshold => line(b"threshold", ddos, number(0, 4_294_967_295), b"1000"),
             Operand::Bytes => line(b"bytes", heavy, number(1, 1_000_000_000_000), b"1000000"),
             Operand::Rate => line(b"rate", bucket, number(0, 1_000_000_000), b"1000"),

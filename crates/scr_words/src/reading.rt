@@ -16,17 +16,17 @@ pub enum WordsError {
     /// The first word that is refused, with its first cause.
     Refused(WordFault),
     /// There was no memory for the drop list.
-    OutOfMemory,
+    OutOfMemory(OutOfMemory),
 }
 
 impl From<OutOfMemory> for WordsError {
     ghost use Rattle.std.specs.Prelude.{◌≡◌};
     ghost use Rattle.scr_words.specs.declared.reading.WordsError.TheVariants as error;
 
-    ghost from_gives = { λ _ made. made ≡ error.OutOfMemory };
+    ghost from_gives = { λ want made. made ≡ error.OutOfMemory want };
 
-    fn from(_: OutOfMemory) -> Self {
-        WordsError::OutOfMemory
+    fn from(want: OutOfMemory) -> Self {
+        WordsError::OutOfMemory(want)
     }
 }
 

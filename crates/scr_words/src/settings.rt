@@ -1,4 +1,5 @@
 ghost use Rattle.std.specs.Prelude.{◌≤◌};
+ghost use Rattle.scr_words.specs.Limits.{most_cores, most_history, most_ring, most_frames, most_hosts};
 
 use scr_bucket::BucketSettings;
 use scr_conn::ConnSettings;
@@ -47,10 +48,10 @@ pub struct Shape {
     /// Whether each core has a thread of its own.
     pub threads: bool,
     ghost some_cores: { 1 ≤ cores },
-    ghost few_cores: { cores ≤ 16 },
-    ghost short_history: { history ≤ 64 },
+    ghost few_cores: { cores ≤ most_cores },
+    ghost short_history: { history ≤ most_history },
     ghost some_ring: { 1 ≤ ring },
-    ghost short_ring: { ring ≤ 4096 },
+    ghost short_ring: { ring ≤ most_ring },
 }
 
 /// All that the words of a command line choose, with the defaults for what they leave out.
@@ -68,7 +69,7 @@ pub struct RunSettings {
     pub frames: u32,
     /// How many hosts send in it, from 1 to 65,536.
     pub hosts: u32,
-    ghost few_frames: { frames ≤ 1000000 },
+    ghost few_frames: { frames ≤ most_frames },
     ghost some_hosts: { 1 ≤ hosts },
-    ghost few_hosts: { hosts ≤ 65536 },
+    ghost few_hosts: { hosts ≤ most_hosts },
 }

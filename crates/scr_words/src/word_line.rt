@@ -1,5 +1,5 @@
 ghost use Rattle.std.specs.Prelude.{◌≡◌};
-ghost use Rattle.scr_base.specs.Causes.{HasSinkCause};
+ghost use Rattle.scr_base.specs.Causes.{CountsError};
 ghost use Rattle.scr_base.specs.Streams.{BatchesText};
 ghost use Rattle.scr_words.specs.WordLines.{word_line, cause_line, drop_cause_name};
 
@@ -15,7 +15,7 @@ pub fn put_word_line<E: Sink>(
     fault: &WordFault,
 ) -> Result<(), SinkError>
     ensures text { BatchesText (E.written err.old) (E.written err.new) batch.old batch.new result (word_line fault.now) }
-    ensures cause { HasSinkCause E.faults E.wants err.old err.new result }
+    ensures cause { CountsError E.faults E.wants err.old err.new result }
 {
     batch.put_pieces(
         err,
@@ -30,7 +30,7 @@ pub fn put_word_line<E: Sink>(
 
 fn put_cause<E: Sink>(batch: &mut Batch, err: &mut E, cause: WordCause) -> Result<(), SinkError>
     ensures text { BatchesText (E.written err.old) (E.written err.new) batch.old batch.new result (cause_line cause) }
-    ensures cause { HasSinkCause E.faults E.wants err.old err.new result }
+    ensures cause { CountsError E.faults E.wants err.old err.new result }
 {
     match cause {
         WordCause::NoCommand => batch.put(err, b"NoCommand\n"),
@@ -54,7 +54,7 @@ fn put_drop_cause<E: Sink>(
     place: u64,
 ) -> Result<(), SinkError>
     ensures text { BatchesText (E.written err.old) (E.written err.new) batch.old batch.new result (cause_line (WordCause.Drop cause place)) }
-    ensures cause { HasSinkCause E.faults E.wants err.old err.new result }
+    ensures cause { CountsError E.faults E.wants err.old err.new result }
 {
     batch.put_pieces(
         err,

@@ -1,0 +1,306 @@
+-- Words without a fault choose some settings, and only these.
+use Rattle.std.proofs.Common.{◌≡◌, ℕ, ◌≤◌, List, Bool, true, false, cond, not, ◌&&◌, leb, codes, bytes_eq, Some, None, Ok, Err, refl, sym, ap, ◌∙◌, arith}
+use Rattle.std.specs.List.{before_first, after_first}
+use Rattle.std.proofs.lemmas.Bool.{and_parts}
+use Rattle.std.proofs.lemmas.Bool.Decides.{nat_tests}
+use Rattle.std.proofs.Math.Bridge.{le_prop}
+use Rattle.std.proofs.Math.Path.{PathP, to_path_p}
+use Rattle.scr_base.specs.Numbers.{is_number, number_of}
+use Rattle.scr_plan.proofs.OneReading.{Spells-same}
+use Rattle.scr_program.specs.declared.setting.SettingError.TheVariants.{Value, Range}
+use Rattle.scr_knock.specs.Ports.{is_comma, is_port, ports_of}
+use Rattle.scr_knock.specs.declared.settings.KnockSettings.{KnockSettings}
+use Rattle.scr_words.specs.Limits.{most_flows, most_cores, most_history, most_ring, most_frames, most_hosts}
+use Rattle.scr_words.specs.declared.settings.Command.{Command}
+use Rattle.scr_words.specs.declared.settings.ProgramSettings.{ProgramSettings}
+use Rattle.scr_words.specs.declared.settings.ProgramSettings.TheVariants.{Ddos, Heavy, Bucket, Knock, Conn}
+use Rattle.scr_words.specs.declared.settings.RunSettings.{RunSettings}
+use Rattle.scr_words.specs.declared.settings.Shape.{Shape}
+use Rattle.scr_words.specs.declared.operand.ProgramName.{ProgramName}
+use Rattle.scr_words.specs.declared.operand.ProgramName.TheVariants as program
+use Rattle.scr_words.specs.declared.operand.Operand.TheVariants as operand
+use Rattle.scr_words.specs.WordParts.{chosen}
+use Rattle.scr_words.specs.WordFaults.{setting_fault}
+use Rattle.scr_words.specs.WordTests.{HaveFaultlessValues}
+use Rattle.scr_words.specs.GivenSettings.{value_for, number_for, history_for, HasPorts, HasProgram, HasShape, AreChosen}
+use Rattle.scr_words.proofs.GivenValues.{value_for-passes}
+use Rattle.scr_words.proofs.DropListFaults.{drop_list_fault-empty}
+use Rattle.scr_words.proofs.FaultlessValues.{Spells-some, number-inside, history-short}
+
+-- ports without a fault
+read-some : {A : Type 0} (numbers ports : Bool) (read : A) → setting_fault (cond (not numbers) (Err Value) (cond (not ports) (Err Range) (Ok read))) ≡ None
+    → (numbers ≡ true) × (ports ≡ true)
+read-some false ports read none = absurd cc
+read-some true false read none = absurd cc
+read-some true true read none = (refl, refl)
+
+-- the texts of the three ports
+abbrev first_text : List ℕ → List ℕ
+first_text text = before_first is_comma text
+
+abbrev second_text : List ℕ → List ℕ
+second_text text = before_first is_comma (after_first is_comma text)
+
+abbrev third_text : List ℕ → List ℕ
+third_text text = after_first is_comma (after_first is_comma text)
+
+record ArePorts (first second third : List ℕ) : Type 0 where
+  read : ports_of first second third ≡ Ok (number_of first, number_of second, number_of third)
+  first_some : 1 ≤ number_of first
+  second_some : 1 ≤ number_of second
+  third_some : 1 ≤ number_of third
+
+abbrev ArePorts-of : List ℕ → Type 0
+ArePorts-of text = ArePorts (first_text text) (second_text text) (third_text text)
+
+some-port : (number : ℕ) → is_port number ≡ true → 1 ≤ number
+some-port number port =
+    let least : leb 1 number ≡ true = (and_parts (leb 1 number) (leb number 65535) port).0 in
+    grind (arith, nat_tests, least)
+
+ArePorts-from : (first second third : List ℕ) → setting_fault (ports_of first second third) ≡ None → ArePorts first second third
+ArePorts-from first second third none =
+    let passed = read-some (is_number first && (is_number second && is_number third))
+    (is_port (number_of first) && (is_port (number_of second) && is_port (number_of third)))
+    (number_of first, number_of second, number_of third) none in
+    let a = and_parts (is_port (number_of first)) (is_port (number_of second) && is_port (number_of third)) passed.1 in
+    let b = and_parts (is_port (number_of second)) (is_port (number_of third)) a.1 in
+    record {
+      read = rw (passed.0, passed.1) refl;
+      first_some = some-port (number_of first) a.0;
+      second_some = some-port (number_of second) b.0;
+      third_some = some-port (number_of third) b.1;
+    }
+
+HasPorts-are : (text : List ℕ) (settings : KnockSettings) → ArePorts-of text → HasPorts text settings
+    → (settings.first ≡ number_of (first_text text)) × (settings.second ≡ number_of (second_text text)) × (settings.third ≡ number_of (third_text text))
+HasPorts-are text settings ports has = rw ports.read at has
+
+-- facts along an equation
+at_least : (bound : ℕ) {m n : ℕ} (e : m ≡ n) (p : bound ≤ m) (q : bound ≤ n) → PathP (λ i. bound ≤ e i) p q
+at_least bound e p q = to_path_p (λ i. bound ≤ e i) (le_prop _ q)
+
+at_most : (bound : ℕ) {m n : ℕ} (e : m ≡ n) (p : m ≤ bound) (q : n ≤ bound) → PathP (λ i. e i ≤ bound) p q
+at_most bound e p q = to_path_p (λ i. e i ≤ bound) (le_prop _ q)
+
+module _ (operands : List (List ℕ)) (values : HaveFaultlessValues operands) where
+  flows_inside : (1 ≤ number_for operand.Flows operands) × (number_for operand.Flows operands ≤ most_flows)
+  flows_inside = number-inside operands values operand.Flows 1 most_flows refl refl
+
+  ports_are : ArePorts-of (value_for operand.Ports operands)
+  ports_are = ArePorts-from _ _ _ (value_for-passes operand.Ports operands values refl)
+
+  -- the settings of a program by the values that its operands have
+  abbrev made : ProgramName → ProgramSettings
+  made program.Ddos = Ddos (record {
+    threshold = number_for operand.Threshold operands;
+    flows = number_for operand.Flows operands;
+    threshold_fits = (number-inside operands values operand.Threshold 0 4294967295 refl refl).1;
+    some = flows_inside.0;
+    few = flows_inside.1;
+  })
+  made program.Heavy = Heavy (record {
+    bytes = number_for operand.Bytes operands;
+    flows = number_for operand.Flows operands;
+    bytes_some = (number-inside operands values operand.Bytes 1 1000000000000 refl refl).0;
+    bytes_fits = (number-inside operands values operand.Bytes 1 1000000000000 refl refl).1;
+    some = flows_inside.0;
+    few = flows_inside.1;
+  })
+  made program.Bucket = Bucket (record {
+    rate = number_for operand.Rate operands;
+    burst = number_for operand.Burst operands;
+    flows = number_for operand.Flows operands;
+    rate_fits = (number-inside operands values operand.Rate 0 1000000000 refl refl).1;
+    burst_some = (number-inside operands values operand.Burst 1 1000000000 refl refl).0;
+    burst_fits = (number-inside operands values operand.Burst 1 1000000000 refl refl).1;
+    some = flows_inside.0;
+    few = flows_inside.1;
+  })
+  made program.Knock = Knock (record {
+    first = number_of (first_text (value_for operand.Ports operands));
+    second = number_of (second_text (value_for operand.Ports operands));
+    third = number_of (third_text (value_for operand.Ports operands));
+    flows = number_for operand.Flows operands;
+    some_first = ports_are.first_some;
+    some_second = ports_are.second_some;
+    some_third = ports_are.third_some;
+    some_flows = flows_inside.0;
+    few_flows = flows_inside.1;
+  })
+  made program.Conn = Conn (record {
+    idle = number_for operand.Idle operands;
+    flows = number_for operand.Flows operands;
+    some_time = (number-inside operands values operand.Idle 1 10000000000000 refl refl).0;
+    few_time = (number-inside operands values operand.Idle 1 10000000000000 refl refl).1;
+    some_flows = flows_inside.0;
+    few_flows = flows_inside.1;
+  })
+
+  HasProgram-made : (name : ProgramName) → chosen operands ≡ Some name → HasProgram operands (made name)
+  HasProgram-made program.Ddos is = (is, refl, refl)
+  HasProgram-made program.Heavy is = (is, refl, refl)
+  HasProgram-made program.Bucket is = (is, refl, refl, refl)
+  HasProgram-made program.Knock is = (is, rw ports_are.read (refl, refl, refl), refl)
+  HasProgram-made program.Conn is = (is, refl, refl)
+
+  -- no others are chosen
+  record IsMade (settings : ProgramSettings) : Type 0 where
+    name : ProgramName
+    is_chosen : chosen operands ≡ Some name
+    same : settings ≡ made name
+
+  IsMade-from : (settings : ProgramSettings) → HasProgram operands settings → IsMade settings
+  IsMade-from (Ddos settings) (is, threshold, flows) = record {
+    name = program.Ddos;
+    is_chosen = is;
+    same = λ i. Ddos (record {
+      threshold = threshold i;
+      flows = flows i;
+      threshold_fits = at_most 4294967295 threshold settings.threshold_fits (number-inside operands values operand.Threshold 0 4294967295 refl refl).1 i;
+      some = at_least 1 flows settings.some flows_inside.0 i;
+      few = at_most 65536 flows settings.few flows_inside.1 i;
+    });
+  }
+  IsMade-from (Heavy settings) (is, bytes, flows) = record {
+    name = program.Heavy;
+    is_chosen = is;
+    same = λ i. Heavy (record {
+      bytes = bytes i;
+      flows = flows i;
+      bytes_some = at_least 1 bytes settings.bytes_some (number-inside operands values operand.Bytes 1 1000000000000 refl refl).0 i;
+      bytes_fits = at_most 1000000000000 bytes settings.bytes_fits (number-inside operands values operand.Bytes 1 1000000000000 refl refl).1 i;
+      some = at_least 1 flows settings.some flows_inside.0 i;
+      few = at_most 65536 flows settings.few flows_inside.1 i;
+    });
+  }
+  IsMade-from (Bucket settings) (is, rate, burst, flows) = record {
+    name = program.Bucket;
+    is_chosen = is;
+    same = λ i. Bucket (record {
+      rate = rate i;
+      burst = burst i;
+      flows = flows i;
+      rate_fits = at_most 1000000000 rate settings.rate_fits (number-inside operands values operand.Rate 0 1000000000 refl refl).1 i;
+      burst_some = at_least 1 burst settings.burst_some (number-inside operands values operand.Burst 1 1000000000 refl refl).0 i;
+      burst_fits = at_most 1000000000 burst settings.burst_fits (number-inside operands values operand.Burst 1 1000000000 refl refl).1 i;
+      some = at_least 1 flows settings.some flows_inside.0 i;
+      few = at_most 65536 flows settings.few flows_inside.1 i;
+    });
+  }
+  IsMade-from (Knock settings) (is, ports, flows) =
+      let (first, second, third) = HasPorts-are (value_for operand.Ports operands) settings ports_are ports in
+      record {
+        name = program.Knock;
+        is_chosen = is;
+        same = λ i. Knock (record {
+          first = first i;
+          second = second i;
+          third = third i;
+          flows = flows i;
+          some_first = at_least 1 first settings.some_first ports_are.first_some i;
+          some_second = at_least 1 second settings.some_second ports_are.second_some i;
+          some_third = at_least 1 third settings.some_third ports_are.third_some i;
+          some_flows = at_least 1 flows settings.some_flows flows_inside.0 i;
+          few_flows = at_most 65536 flows settings.few_flows flows_inside.1 i;
+        });
+      }
+  IsMade-from (Conn settings) (is, idle, flows) = record {
+    name = program.Conn;
+    is_chosen = is;
+    same = λ i. Conn (record {
+      idle = idle i;
+      flows = flows i;
+      some_time = at_least 1 idle settings.some_time (number-inside operands values operand.Idle 1 10000000000000 refl refl).0 i;
+      few_time = at_most 10000000000000 idle settings.few_time (number-inside operands values operand.Idle 1 10000000000000 refl refl).1 i;
+      some_flows = at_least 1 flows settings.some_flows flows_inside.0 i;
+      few_flows = at_most 65536 flows settings.few_flows flows_inside.1 i;
+    });
+  }
+
+  program-same : (a b : ProgramSettings) → HasProgram operands a → HasProgram operands b → a ≡ b
+  program-same a b has_a has_b =
+      let of_a = IsMade-from a has_a in
+      let of_b = IsMade-from b has_b in
+      let name : of_a.name ≡ of_b.name = cc (of_a.is_chosen, of_b.is_chosen) in
+      of_a.same ∙ ap made name ∙ sym of_b.same
+
+  shape_some : (shape : Shape) × HasShape operands shape
+  shape_some =
+      let (ranges, spells) = Spells-some (value_for operand.Drop operands) (value_for-passes operand.Drop operands values drop_list_fault-empty) in
+      let cores = number-inside operands values operand.Cores 1 most_cores refl refl in
+      let ring = number-inside operands values operand.Ring 1 most_ring refl refl in
+      let shape : Shape = record {
+        cores = number_for operand.Cores operands;
+        history = history_for operands;
+        drops = ranges;
+        ring = number_for operand.Ring operands;
+        threads = bytes_eq (value_for operand.Threads operands) (codes "yes");
+        some_cores = cores.0;
+        few_cores = cores.1;
+        short_history = history-short operands values;
+        some_ring = ring.0;
+        short_ring = ring.1;
+      } in
+      (shape, record { cores = refl; history = refl; drops = spells; ring = refl; threads = refl })
+
+  pub settings_some : (command : Command) (name : ProgramName) → chosen operands ≡ Some name
+      → (settings : RunSettings) × (settings.command ≡ command) × AreChosen operands settings
+  settings_some command name is =
+      let (shape, has_shape) = shape_some in
+      let hosts = number-inside operands values operand.Hosts 1 most_hosts refl refl in
+      let settings : RunSettings = record {
+        command = command;
+        program = made name;
+        shape = shape;
+        start = number_for operand.Start operands;
+        frames = number_for operand.Frames operands;
+        hosts = number_for operand.Hosts operands;
+        few_frames = (number-inside operands values operand.Frames 0 most_frames refl refl).1;
+        some_hosts = hosts.0;
+        few_hosts = hosts.1;
+      } in
+      (settings, refl, record { program = HasProgram-made name is; shape = has_shape; start = refl; frames = refl; hosts = refl })
+
+-- two shapes with the same numbers are the same
+Shape-same : (a b : Shape) → a.cores ≡ b.cores → a.history ≡ b.history → a.drops ≡ b.drops → a.ring ≡ b.ring → a.threads ≡ b.threads → a ≡ b
+Shape-same a b cores history drops ring threads = λ i. record {
+  cores = cores i;
+  history = history i;
+  drops = drops i;
+  ring = ring i;
+  threads = threads i;
+  some_cores = at_least 1 cores a.some_cores b.some_cores i;
+  few_cores = at_most most_cores cores a.few_cores b.few_cores i;
+  short_history = at_most most_history history a.short_history b.short_history i;
+  some_ring = at_least 1 ring a.some_ring b.some_ring i;
+  short_ring = at_most most_ring ring a.short_ring b.short_ring i;
+}
+
+HasShape-same : (operands : List (List ℕ)) (a b : Shape) → HasShape operands a → HasShape operands b → a ≡ b
+HasShape-same operands a b of_a of_b =
+    Shape-same a b (of_a.cores ∙ sym of_b.cores) (of_a.history ∙ sym of_b.history)
+    (Spells-same (value_for operand.Drop operands) a.drops b.drops of_a.drops of_b.drops) (of_a.ring ∙ sym of_b.ring)
+    (of_a.threads ∙ sym of_b.threads)
+
+RunSettings-same : (a b : RunSettings) → a.command ≡ b.command → a.program ≡ b.program → a.shape ≡ b.shape → a.start ≡ b.start
+    → a.frames ≡ b.frames → a.hosts ≡ b.hosts → a ≡ b
+RunSettings-same a b command program shape start frames hosts = λ i. record {
+  command = command i;
+  program = program i;
+  shape = shape i;
+  start = start i;
+  frames = frames i;
+  hosts = hosts i;
+  few_frames = at_most most_frames frames a.few_frames b.few_frames i;
+  some_hosts = at_least 1 hosts a.some_hosts b.some_hosts i;
+  few_hosts = at_most most_hosts hosts a.few_hosts b.few_hosts i;
+}
+
+-- words choose one settings
+pub AreChosen-same : (operands : List (List ℕ)) (a b : RunSettings) → HaveFaultlessValues operands → a.command ≡ b.command
+    → AreChosen operands a → AreChosen operands b → a ≡ b
+AreChosen-same operands a b values command of_a of_b =
+    RunSettings-same a b command (program-same operands values a.program b.program of_a.program of_b.program)
+    (HasShape-same operands a.shape b.shape of_a.shape of_b.shape) (of_a.start ∙ sym of_b.start) (of_a.frames ∙ sym of_b.frames)
+    (of_a.hosts ∙ sym of_b.hosts)
