@@ -38,7 +38,7 @@ mod tests;
 mod top;
 
 pub use engine::run_engine;
-pub use fault_line::write_fault_line;
+pub use fault_line::{tell_want, write_fault_line};
 pub use names::names_of;
 pub use plain::plain_run;
 pub use scr_words::{

@@ -50,7 +50,7 @@ fn tells_each_status(rt: HostRuntime) -> Result<(), Fail> {
         ),
         (Status::ReadFault, 3, "scr: read fault\n"),
         (Status::WriteFault, 4, "scr: write fault\n"),
-        (Status::OutOfMemory, 5, "scr: out of memory\n"),
+        (Status::OutOfMemory(OutOfMemory), 5, "scr: out of memory\n"),
         (
             Status::TooMany { limit: 1000000 },
             6,
