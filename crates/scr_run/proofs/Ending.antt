@@ -16,7 +16,7 @@ use Rattle.scr_run.specs.declared.status.Status.{Status}
 use Rattle.scr_run.specs.declared.status.Status.TheVariants.{Done, Words, Capture, ReadFault, WriteFault, OutOfMemory, TooMany}
 use Rattle.scr_words.specs.declared.word_fault.WordFault.{WordFault}
 use Rattle.scr_run.specs.Asked.{status_of, asked_by, IsOfCapture}
-use Rattle.scr_run.specs.Ends.{Ends, IsText, Stands, Writes, StopsWriting, BeginsWriting, reads_behind, writes_behind, IsWantsBehind, status_of_sink, ended, IsUnlessOutOfMemory, HasFault, IsStop, StopsReading}
+use Rattle.scr_run.specs.Ends.{Ends, IsText, Stands, Writes, StopsWriting, BeginsWriting, reads_behind, writes_behind, IsWantsBehind, status_of_sink, IsRefusal, IsOutOfMemory, IsUnlessOutOfMemory, IsStop, StopsReading}
 
 -- what is known of a run of a part is known of the whole
 module _ (Asked Asked' : Result (List ℕ) Status → Type 0) (Takes Takes' AtEnd AtEnd' : Type 0) {O : Type 0} (written : O → Option (List ℕ)) (old new : O)
@@ -281,3 +281,31 @@ no-words text left fault of = refused of.reading of.told
     refused : (reading : Result (List Record) CaptureError) → Err (Words fault) ≡ asked_by text reading → ⊥
     refused (Ok records) same = cc
     refused (Err error) same = no_fault-words fault error cc
+
+-- how a run ended, from what is told of it status by status
+module _ (Asked : Result (List ℕ) Status → Type 0) (Takes AtEnd : Type 0) {O : Type 0} (written : O → Option (List ℕ)) (faults wants : O → ℕ) (old new : O) where
+  shown_stands : (status : Status) → (status ≡ Done → Writes Asked AtEnd (written old) (written new))
+      → (IsRefusal status → Asked (Err status) × (new ≡ old)) → (status ≡ ReadFault → Takes × (new ≡ old))
+      → (status ≡ WriteFault → StopsWriting Asked AtEnd (written old) (written new))
+      → (IsOutOfMemory status → (new ≡ old) ⊎ StopsWriting Asked AtEnd (written old) (written new))
+      → Stands Asked Takes AtEnd written old new status
+  shown_stands Done done refused read write want = done refl
+  shown_stands (Words fault) done refused read write want = refused tt
+  shown_stands (Capture error) done refused read write want = refused tt
+  shown_stands (TooMany limit) done refused read write want = refused tt
+  shown_stands ReadFault done refused read write want = read refl
+  shown_stands WriteFault done refused read write want = write refl
+  shown_stands (OutOfMemory memory) done refused read write want = want (memory, refl)
+
+  pub Ends-shown : (failed_before failed : ℕ) (status : Status) → (status ≡ Done → Writes Asked AtEnd (written old) (written new))
+      → (IsRefusal status → Asked (Err status) × (new ≡ old)) → (status ≡ ReadFault → Takes × (new ≡ old))
+      → (status ≡ WriteFault → StopsWriting Asked AtEnd (written old) (written new))
+      → (IsOutOfMemory status → (new ≡ old) ⊎ StopsWriting Asked AtEnd (written old) (written new))
+      → failed ≡ reads_behind status failed_before → faults new ≡ writes_behind status (faults old) → IsWantsBehind status (wants old) (wants new)
+      → Ends Asked Takes AtEnd written failed_before failed faults wants old new status
+  Ends-shown failed_before failed status done refused read write want reads writes wants_behind = record {
+    stands = shown_stands status done refused read write want;
+    reads = reads;
+    writes = writes;
+    wants_behind = wants_behind;
+  }

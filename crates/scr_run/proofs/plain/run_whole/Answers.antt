@@ -1,11 +1,12 @@
-use Rattle.std.proofs.Common.{◌≡◌, true, length, ap, ◌∙◌, sym, arith, refl, [], ℕ}
+use Rattle.std.proofs.Common.{◌≡◌, ◌<◌, true, List, All, length, ap, ◌∙◌, sym, subst, arith, refl, [], ℕ}
+use Rattle.scr_plan.specs.declared.given.Given.{Given}
 use Rattle.std.proofs.lemmas.Result.{err_from_is_err_and}
 use Rattle.scr_plan.specs.Plan.{frame_count}
 use Rattle.scr_plan.specs.Counts.{delivered_count, kept_count}
-use Rattle.scr_replica.specs.OneCore.{verdicts, entries, undivided}
+use Rattle.scr_replica.specs.OneCore.{undivided}
 use Rattle.scr_replica.proofs.Undivided.{length-verdicts, entries-undivided}
 use Rattle.scr_replica.proofs.Counted.{delivered_count-all, kept_count-all}
-use Rattle.scr_report.specs.Outcome.{Outcome, report_of, report_text}
+use Rattle.scr_report.specs.Outcome.{Outcome, report_of, report_text, totals_of}
 use Rattle.scr_run.specs.Rules.{Rules, ruled_by}
 use Rattle.scr_run.specs.RunReport.{rows_of, outcome_of, plain_text}
 use Rattle.scr_run.specs.Ends.{ended}
@@ -14,13 +15,22 @@ use Rattle.scr_run.proofs.Written.{IsOfCapture-from}
 use Rattle.scr_run.proofs.plain.run_whole.Goals as goal
 
 pub write_found-requires-clause-counted : goal.write_found-requires-clause-counted
-write_found-requires-clause-counted g c κs within = ?
+write_found-requires-clause-counted g c κs within =
+    let answer = c.in_ok-core.ensures.answer in
+    let found = c.in_ok-report.ensures (rows_of (g.P.Program.row_of c.args.settings.now) answer.0) answer.3 in
+    subst (λ (o : Outcome). o.totals ≡ totals_of g.P.Program.verdict_names o.verdicts) (sym found) refl
 
 pub write_found-requires-clause-named : goal.write_found-requires-clause-named
-write_found-requires-clause-named g c κs within = ?
+write_found-requires-clause-named g c κs within =
+    let answer = c.in_ok-core.ensures.answer in
+    let found = c.in_ok-report.ensures (rows_of (g.P.Program.row_of c.args.settings.now) answer.0) answer.3 in
+    subst (λ (given : List Given). All (λ given. given.verdict.0 < length g.P.Program.verdict_names) given) (sym (ap (λ (o : Outcome). o.verdicts) found)) c.in_ok-core.ensures.named
 
 pub returns-in_err-core : goal.returns-in_err-core
-returns-in_err-core g c = record { ends = ? }
+returns-in_err-core g c =
+    let failed = err_from_is_err_and c.from_residual-in_err-core.result c.from_residual-in_err-core.ensures.1 in
+    record { ends = rw failed.1 (rw failed.2 (Ends-stopped _ (g.S.Source.left c.args.capture.now) _ _ g.O.Sink.written g.O.Sink.faults g.O.Sink.wants c.args.out.now _ _ _ tt
+    c.in_err-core.ensures.stop)) }
 
 pub returns : goal.returns
 returns g c =

@@ -8,7 +8,7 @@ pub returns-clause-words : goal.returns-clause-words
 returns-clause-words g c = λ fault refused.
     status-is _ _ _ g.O.Sink.written g.O.Sink.faults g.O.Sink.wants _ _ _ _ _
     (λ asked. asked-refused c.args.words.now (g.S.Source.left c.args.capture.now) asked fault refused)
-    (λ takes same. refused-takes c.args.words.now fault refused takes) (λ done. ?) c.of-status.result (rw (← c.of-status.ensures) at c.run.ensures.ends)
+    (λ takes same. refused-takes c.args.words.now fault refused takes) (λ done. absurd cc) c.of-status.result (rw (← c.of-status.ensures) at c.run.ensures.ends)
 
 pub returns-clause-malformed : goal.returns-clause-malformed
 returns-clause-malformed g c = λ bytes error takes told reading calm.
