@@ -11,7 +11,7 @@ use std::io;
 const MOST_WORDS: usize = 4_294_967_295;
 
 /// Why there are no words.
-#[derive(Debug)]
+#[derive(Clone, Copy, Debug, PartialEq, Eq)]
 pub enum NoWords {
     /// There was no memory for them.
     OutOfMemory(OutOfMemory),

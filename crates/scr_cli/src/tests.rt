@@ -3,12 +3,13 @@
 use crate::arguments::{NoWords, words_given};
 use crate::ending::ended;
 use scr_base::{OutOfMemory, SureSink, SureSource};
-use std::alloc::Global;
+use std::alloc::{AllocError, Global};
+use std::env::Args;
 use std::io;
 use std::test::Fail;
 
 /// The arguments, as the system gives them.
-fn arguments(alloc: Global, texts: &[&str]) -> Result<std::vec::IntoIter<String>, Fail> {
+fn arguments(alloc: Global, texts: &[&str]) -> Result<Args, Fail> {
     let mut all = Vec::new(alloc);
     for text in texts {
         all.push(String::from_str(alloc, text)?)?;
@@ -33,9 +34,15 @@ fn takes_all_arguments_but_the_name(rt: HostRuntime) -> Result<(), Fail> {
     Ok(())
 }
 
+// More than any memory has.
+fn too_large(alloc: Global) -> Result<Vec<u8>, AllocError> {
+    Vec::with_capacity(alloc, usize::MAX)
+}
+
 #[test]
 fn tells_why_there_are_no_words(rt: HostRuntime) {
-    let wanted = words_given(rt.alloc(), Err(io::ErrorKind::OutOfMemory.into()));
+    let refused = too_large(rt.alloc()).err().expect(&rt, "no memory is so large");
+    let wanted = words_given(rt.alloc(), Err(refused.into()));
     assert!(rt; matches!(wanted, Err(NoWords::OutOfMemory(_))));
     let no_text = words_given(rt.alloc(), Err(io::ErrorKind::InvalidData.into()));
     assert!(rt; matches!(no_text, Ok(words) if words.is_empty()));
@@ -79,8 +86,8 @@ fn runs_the_words(rt: HostRuntime) -> Result<(), Fail> {
 
 #[test]
 fn ends_where_there_are_no_words(rt: HostRuntime) -> Result<(), Fail> {
-    let error = io::ErrorKind::OutOfMemory.into();
-    let want = OutOfMemory::of_system(&error).expect(&rt, "it is a want of memory");
+    let refused = too_large(rt.alloc()).err().expect(&rt, "no memory is so large");
+    let want = OutOfMemory::from(refused);
     for none in [NoWords::OutOfMemory(want), NoWords::TooMany] {
         let (code, out, err) = run_over(rt.alloc(), Err(none))?;
         assert_eq!(rt; code, 5);

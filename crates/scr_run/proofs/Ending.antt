@@ -186,7 +186,7 @@ module _ (Asked : Result (List ℕ) Status → Type 0) (Takes AtEnd : Type 0) {O
     end = stops.end;
   }
 
-  pub front-from : (status : Status) → Stands Asked Takes AtEnd written old new status → (new ≡ old) ⊎ BeginsWriting Asked AtEnd (written old) (written new)
+  front-from : (status : Status) → Stands Asked Takes AtEnd written old new status → (new ≡ old) ⊎ BeginsWriting Asked AtEnd (written old) (written new)
   front-from Done stands =
       inr (record { text = stands.text; asked = stands.asked; front = front_of (written old) (written new) stands.text stands.gained; end = stands.end })
   front-from (Words fault) stands = inl stands.1
@@ -309,3 +309,10 @@ module _ (Asked : Result (List ℕ) Status → Type 0) (Takes AtEnd : Type 0) {O
     writes = writes;
     wants_behind = wants_behind;
   }
+
+-- what stands behind any run, from how it ended
+pub Ends-front : (Asked : Result (List ℕ) Status → Type 0) (Takes AtEnd : Type 0) {O : Type 0} (written : O → Option (List ℕ)) (faults wants : O → ℕ) (old new : O)
+    (failed_before failed : ℕ) (status : Status) → Ends Asked Takes AtEnd written failed_before failed faults wants old new status
+    → (new ≡ old) ⊎ BeginsWriting Asked AtEnd (written old) (written new)
+Ends-front Asked Takes AtEnd written faults wants old new failed_before failed status ends =
+    front-from Asked Takes AtEnd written old new status ends.stands

@@ -1,5 +1,5 @@
 -- How the whole program ends, from how the run of its command ended; and which status the words and the capture ask for.
-use Rattle.std.proofs.Common.{◌≡◌, ◌⊎◌, inl, inr, ℕ, Bool, true, false, List, [], ◌∷◌, Option, Some, Result, Ok, Err, refl, sym, ap, ◌∙◌}
+use Rattle.std.proofs.Common.{◌≡◌, ◌⊎◌, inl, inr, ℕ, Bool, true, false, List, [], ◌∷◌, Option, Some, Result, Ok, Err, refl, sym, ap, ◌∙◌, subst}
 use Rattle.std.specs.Option.{option_map_or}
 use Rattle.scr_pcap.specs.Generated.{generated_records}
 use Rattle.scr_pcap.specs.Records.{Record}
@@ -10,22 +10,24 @@ use Rattle.scr_words.specs.declared.settings.Command.TheVariants.{Run, Plain, Lo
 use Rattle.scr_words.specs.declared.settings.RunSettings.{RunSettings}
 use Rattle.scr_words.specs.declared.word_fault.WordFault.{WordFault}
 use Rattle.scr_words.specs.Operands.{command_named, makes_load}
+use Rattle.scr_words.specs.declared.reading.WordsError.{WordsError}
+use Rattle.scr_words.specs.declared.reading.WordsError.TheVariants as error
 use Rattle.scr_words.specs.WordFaults.{AreRefused}
+use Rattle.scr_words.specs.WordTests.{AreRefusedBy}
 use Rattle.scr_words.specs.GivenSettings.{AreAccepted}
 use Rattle.scr_words.proofs.OneAnswer.{AreAccepted-not_refused, AreRefused-same}
 use Rattle.scr_run.specs.declared.status.Status.{Status}
 use Rattle.scr_run.specs.declared.status.Status.TheVariants.{Done, Words}
 use Rattle.scr_run.specs.Asked.{IsOfCapture, IsByCommand, IsBySettings, IsAsked, AreForNothing, AreForRun, TakeCapture, text_for}
-use Rattle.scr_run.specs.Ends.{Ends, IsText}
+use Rattle.scr_run.specs.Ends.{Ends, IsText, status_of_words}
 use Rattle.scr_run.proofs.Ending.{Ends-through, status_asked, status_read, status_asked-by, IsOfCapture-by}
 
 -- accepted words make a load where their first one says so
-asks_for_load : List (List ℕ) → Bool
+abbrev asks_for_load : List (List ℕ) → Bool
 asks_for_load [] = false
 asks_for_load (first ∷ operands) = option_map_or makes_load (command_named first) false
 
 asks-load : (words : List (List ℕ)) (settings : RunSettings) → AreAccepted words settings → makes_load settings.command ≡ asks_for_load words
-unfolding asks_for_load
 asks-load [] settings accepted = absurd accepted
 asks-load (first ∷ operands) settings accepted = rw accepted.command refl
 
@@ -46,9 +48,6 @@ by_load : (text : List Record → List ℕ) (made : List Record) (left : Option 
 by_load text made left Run asked makes is = absurd cc
 by_load text made left Plain asked makes is = absurd cc
 by_load text made left Load asked makes is = is
-
-made_by : RunSettings → List Record
-made_by settings = generated_records settings.start settings.frames settings.hosts
 
 module _ (words : List (List ℕ)) (left : Option (List ℕ)) (asked : Result (List ℕ) Status) where
   -- where the words are refused, their fault's status is asked for
@@ -100,3 +99,32 @@ module _ (words : List (List ℕ)) (settings : RunSettings) (accepted : AreAccep
       (λ no_load. record { settings = settings; accepted = accepted; takes = no_load })
       (λ end takes. end (same-load words settings takes.settings accepted takes.accepted ∙ takes.takes))
       failed_before failed faults wants status ends
+
+-- refused words end the run before it begins
+pub Ends-of_refusal : (words : List (List ℕ)) (left : Option (List ℕ)) (AtEnd : Type 0) {O : Type 0} (written : O → Option (List ℕ)) (faults wants : O → ℕ) (out : O)
+    (failed : ℕ) (error : WordsError) (status : Status) → status ≡ status_of_words error → AreRefusedBy words error
+    → Ends (IsAsked words left) (TakeCapture words) AtEnd written failed failed faults wants out out status
+Ends-of_refusal words left AtEnd written faults wants out failed (error.Refused fault) status is refused =
+    subst (λ (s : Status). Ends (IsAsked words left) (TakeCapture words) AtEnd written failed failed faults wants out out s) (sym is) (record {
+      stands = (inl (record { fault = fault; refused = refused; told = refl }), refl);
+      reads = refl;
+      writes = refl;
+      wants_behind = refl;
+    })
+Ends-of_refusal words left AtEnd written faults wants out failed (error.OutOfMemory want) status is refused =
+    subst (λ (s : Status). Ends (IsAsked words left) (TakeCapture words) AtEnd written failed failed faults wants out out s) (sym is) (record {
+      stands = inl refl;
+      reads = refl;
+      writes = refl;
+      wants_behind = inl refl;
+    })
+
+-- what holds of a load holds where no capture is taken
+by_test : (makes : Bool) (P : Type 0) → (makes ≡ true → P) → (makes ≡ false → P) → P
+by_test true P load no_load = load refl
+by_test false P load no_load = no_load refl
+
+pub without-capture : (words : List (List ℕ)) (settings : RunSettings) → AreAccepted words settings → (P : Type 0)
+    → (makes_load settings.command ≡ true → P) → (TakeCapture words → ⊥) → P
+without-capture words settings accepted P load none =
+    by_test (makes_load settings.command) P load (λ no_load. absurd (none (record { settings = settings; accepted = accepted; takes = no_load })))

@@ -3,7 +3,6 @@
 use crate::{Status, WordCause, WordFault, tell_want, write_fault_line};
 use scr_base::{OutOfMemory, SureSink};
 use scr_pcap::CaptureError;
-use std::io;
 use std::test::Fail;
 
 #[test]
@@ -16,8 +15,8 @@ fn tells_each_status(rt: HostRuntime) -> Result<(), Fail> {
         number: 2,
         length: 262145,
     };
-    let system = io::ErrorKind::OutOfMemory.into();
-    let want = OutOfMemory::of_system(&system).expect(&rt, "it is a want of memory");
+    let too_large = Vec::<u8>::with_capacity(rt.alloc(), usize::MAX);
+    let want = OutOfMemory::from(too_large.err().expect(&rt, "no memory is so large"));
     let cases: [(Status, u8, &str); 12] = [
         (Status::Done, 0, ""),
         (Status::Words(fault), 1, "scr: word 2: Missing\n"),

@@ -33,7 +33,7 @@ write_found-requires-clause-counted g c κs within =
 
 pub returns-in_err-rows : goal.returns-in_err-rows
 returns-in_err-rows g c =
-    let failed = err_from_is_err_and c.from_residual-in_err-rows.result c.from_residual-in_err-rows.ensures.1 in
+    let failed = err_from_is_err_and c.from_residual.result c.from_residual.ensures.1 in
     record { ends = rw failed.1 (rw failed.2 (Ends-stopped _ (g.S.Source.left c.args.capture.now) _ _ g.O.Sink.written g.O.Sink.faults g.O.Sink.wants c.args.out.now _ _ _ tt
     c.in_err-rows.ensures.stop)) }
 

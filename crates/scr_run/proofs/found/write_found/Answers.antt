@@ -2,7 +2,6 @@ use Rattle.std.proofs.Common.{length, ap, ◌∙◌, sym, refl}
 use Rattle.std.proofs.lemmas.List.FromFn.{length-map-range_with_len}
 use Rattle.std.proofs.lemmas.Result.{err_from_is_err_and}
 use Rattle.scr_report.specs.Outcome.{total_of}
-use Rattle.scr_run.specs.Ends.{ended}
 use Rattle.scr_run.proofs.Ending.{Ends-of_write}
 use Rattle.scr_run.proofs.found.write_found.Goals as goal
 
@@ -14,8 +13,8 @@ write_report-requires-clause-a_total_each g c =
 pub returns-in_err-write_report : goal.returns-in_err-write_report
 returns-in_err-write_report g c =
     let failed = err_from_is_err_and c.from_residual-in_err-write_report.result c.from_residual-in_err-write_report.ensures.1 in
-    record { ends = rw failed.1 (Ends-of_write g.O.Sink.written g.O.Sink.faults g.O.Sink.wants _ _ _ _ c.in_err-write_report.ensures.text c.in_err-write_report.ensures.cause failed.0 failed.2) }
+    record { ends = rw failed.1 (Ends-of_write g.O.Sink.written g.O.Sink.faults g.O.Sink.wants _ _ _ _ (rw c.in_ok-names.ensures at c.in_err-write_report.ensures.text) c.in_err-write_report.ensures.cause failed.0 failed.2) }
 
 pub returns : goal.returns
 returns g c =
-    record { ends = Ends-of_write g.O.Sink.written g.O.Sink.faults g.O.Sink.wants _ _ _ _ c.in_ok-write_report.ensures.text c.in_ok-write_report.ensures.cause _ refl }
+    record { ends = Ends-of_write g.O.Sink.written g.O.Sink.faults g.O.Sink.wants _ _ _ _ (rw c.in_ok-names.ensures at c.in_ok-write_report.ensures.text) c.in_ok-write_report.ensures.cause _ refl }

@@ -1,8 +1,11 @@
 use Rattle.std.proofs.Common.{Ok, Err}
 use Rattle.scr_pcap.proofs.OneReading.{same_readings}
-use Rattle.scr_run.proofs.Ending.{malformed, complete, status-is}
+use Rattle.scr_run.proofs.Ending.{malformed, complete, status-is, Ends-front}
 use Rattle.scr_run.proofs.Main.{asked-refused, asked-load, asked-capture, refused-takes, load-takes}
 use Rattle.scr_run.proofs.top.scr_main.Goals as goal
+
+pub returns-clause-front : goal.returns-clause-front
+returns-clause-front g c = Ends-front _ _ _ g.O.Sink.written g.O.Sink.faults g.O.Sink.wants _ _ _ _ _ c.run.ensures.ends
 
 pub returns-clause-words : goal.returns-clause-words
 returns-clause-words g c = λ fault refused.
