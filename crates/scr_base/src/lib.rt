@@ -2,7 +2,7 @@
 //!
 //! **What it does.** A [`Source`] gives bytes and a [`Sink`] takes them: in memory, with calls that fail where a caller
 //! says so ([`MemSource`], [`MemSink`]) or with none ([`SureSource`], [`SureSink`]), or the standard streams of the
-//! process ([`StdSource`], [`StdSink`]). [`put_all`], [`put_decimal`] and [`Batch`] write whole texts, [`read_number`]
+//! process ([`StdSource`], [`StdOutput`], [`StdError`]). [`put_all`], [`put_decimal`] and [`Batch`] write whole texts, [`read_number`]
 //! reads a number, and a [`Word`] owns the bytes of an argument.
 //!
 //! **What a contract sees.** Bytes as a list of numbers. A stream as what it has left, or what was written to it, where
@@ -25,6 +25,7 @@ mod batch;
 mod copying;
 mod memory;
 mod number;
+mod out_of_memory;
 mod piece;
 mod row;
 mod sink;
@@ -39,11 +40,12 @@ mod writing;
 pub use batch::Batch;
 pub use memory::{MemSink, MemSource};
 pub use number::{NumberError, read_number};
+pub use out_of_memory::OutOfMemory;
 pub use piece::Piece;
 pub use row::{Row, Verdict};
 pub use sink::{Sink, SinkError};
 pub use source::{Failed, Source};
-pub use standard::{ReaderSource, StdSink, StdSource};
+pub use standard::{ReaderSource, StdError, StdOutput, StdSource, WriterSink};
 pub use sure::{SureSink, SureSource};
-pub use word::{OutOfMemory, Word};
+pub use word::Word;
 pub use writing::{put_all, put_decimal};

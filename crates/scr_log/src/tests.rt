@@ -26,17 +26,15 @@ fn two_cores(
     packets: usize,
     history: u32,
     dropped: &[u8],
-) -> Result<RunPlan, OutOfMemory>
+) -> Result<RunPlan, Fail>
     requires few { packets ≤ 1000000 }
     requires short { history ≤ 64 }
     ensures packets { IfOk result (λ plan. length plan.rows ≡ packets) }
     ensures cores { IfOk result (λ plan. plan.cores ≡ 2) }
 {
     let rows = vec![in alloc; ROW; packets]?;
-    match Drops::read(alloc, dropped) {
-        Ok(drops) => Ok(RunPlan::make(rows, 2, history, drops)),
-        Err(_) => Err(OutOfMemory),
-    }
+    let drops = Drops::read(alloc, dropped)?;
+    Ok(RunPlan::make(rows, 2, history, drops))
 }
 
 // Publishes the final entry for packet p, where the slot is free.

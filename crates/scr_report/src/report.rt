@@ -1,5 +1,6 @@
 ghost use Rattle.scr_report.specs.Outcome.{Outcome};
 
+use scr_base::OutOfMemory;
 use scr_plan::{CoreCounts, Given};
 use std::alloc::AllocFailed;
 use std::marker::Model;
@@ -45,16 +46,15 @@ pub enum ReportError {
     /// The bytes end behind whole lines that are allowed, and this line is missing.
     Ended { line: u32 },
     /// There was no memory for the report.
-    OutOfMemory,
+    OutOfMemory(OutOfMemory),
 }
 
 impl<T: Drop> From<AllocFailed<T>> for ReportError {
-    ghost use Rattle.std.specs.Prelude.{◌≡◌};
-    ghost use Rattle.scr_report.specs.declared.report.ReportError.TheVariants.{OutOfMemory};
+    ghost use Rattle.scr_report.specs.Memory.{IsOfMemory};
 
-    ghost from_gives = { λ _ error. error ≡ OutOfMemory };
+    ghost from_gives = { λ _ error. IsOfMemory error };
 
-    fn from(_: AllocFailed<T>) -> Self {
-        ReportError::OutOfMemory
+    fn from(failed: AllocFailed<T>) -> Self {
+        ReportError::OutOfMemory(failed.into())
     }
 }

@@ -31,9 +31,7 @@ fn names_of(rt: &impl Abort, alloc: Global, texts: &[&str]) -> Result<Names, Out
 }
 
 fn read(rt: &impl Abort, alloc: Global, texts: &[&str], text: &str) -> Result<Report, ReportError> {
-    let Ok(names) = names_of(rt, alloc, texts) else {
-        return Err(ReportError::OutOfMemory);
-    };
+    let names = names_of(rt, alloc, texts).map_err(ReportError::OutOfMemory)?;
     assert!(rt; text.len() < 1000);
     read_report(alloc, &names, text.as_bytes())
 }
@@ -205,10 +203,11 @@ fn write_worked<O: Sink>(
     with_verdicts: bool,
     out: &mut O,
 ) -> Result<(), SinkError> {
-    let names = names_of(rt, alloc, &DDOS);
-    let report = read(rt, alloc, &DDOS, WORKED);
-    let (Ok(names), Ok(report)) = (names, report) else {
-        return Err(SinkError::OutOfMemory);
+    let names = names_of(rt, alloc, &DDOS).map_err(SinkError::OutOfMemory)?;
+    let report = match read(rt, alloc, &DDOS, WORKED) {
+        Ok(report) => report,
+        Err(ReportError::OutOfMemory(want)) => return Err(SinkError::OutOfMemory(want)),
+        Err(_) => return Err(SinkError::Failed),
     };
     assert!(rt; is_plain(&names, &report));
     write_report(&names, &report, with_verdicts, out)
