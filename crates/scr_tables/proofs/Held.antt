@@ -109,19 +109,33 @@ any-holds (Port port) fields is = absurd cc
 any-holds (Flags flags) fields is = absurd cc
 
 -- and so some rule is for each packet
+false-true : false ≡ true → ⊥
+false-true is = cc
+
+one-more : (same any hold has found : Bool) → (any ≡ true → hold ≡ true) → (has ≡ true → found ≡ true) → ((same && any) || has) ≡ true
+    → ((same && hold) || found) ≡ true
+one-more true true true has found holds_too later is = refl
+one-more true true false has found holds_too later is = absurd (false-true (holds_too refl))
+one-more true false true has found holds_too later is = refl
+one-more true false false has found holds_too later is = later is
+one-more false any hold has found holds_too later is = later is
+
+any-listed : (rules : List Rule) (state : ℕ) (fields : Fields) → has_any rules state ≡ true → list_any (is_for state fields) rules ≡ true
+any-listed [] state fields has = absurd cc
+any-listed (rule ∷ rules) state fields has =
+    one-more (rule.state == state) (is_any rule.pattern) (holds rule.pattern fields) (has_any rules state) (list_any (is_for state fields) rules)
+    (any-holds rule.pattern fields) (any-listed rules state fields) has
+
+listed-found : (p : Rule → Bool) (rules : List Rule) → list_any p rules ≡ true → IsSome (find p rules)
+listed-found p [] is = absurd cc
+listed-found p (rule ∷ rules) is =
+    elim (p rule) as (λ b. (b || list_any p rules) ≡ true → IsSome (cond b (Some rule) (find p rules))) [
+      | true ↦ λ _. refl
+      | false ↦ λ later. listed-found p rules later
+    ] is
+
 pub any-found : (rules : List Rule) (state : ℕ) (fields : Fields) → has_any rules state ≡ true → IsSome (first_rule rules state fields)
-any-found [] state fields has = absurd cc
-any-found (rule ∷ rules) state fields has = at (rule.state == state) (is_any rule.pattern) (holds rule.pattern fields) (any-holds rule.pattern fields) has
-  where
-    at : (same any hold : Bool) → (any ≡ true → hold ≡ true) → ((same && any) || has_any rules state) ≡ true
-        → IsSome (cond (same && hold) (Some rule) (find (is_for state fields) rules))
-    at true any true holds has = refl
-    at true true false holds has = absurd (true-false (holds refl))
-      where
-        true-false : false ≡ true → ⊥
-        true-false is = cc
-    at true false false holds has = any-found rules state fields has
-    at false any hold holds has = any-found rules state fields has
+any-found rules state fields has = listed-found (is_for state fields) rules (any-listed rules state fields has)
 
 -- so after any rows a rule is for the next one
 pub rule-found : (settings : TableSettings) (rows : List Row) (source : Address) (fields : Fields)

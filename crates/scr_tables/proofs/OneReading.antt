@@ -21,7 +21,7 @@ not_ok : (a : TableCause) (x : Result Rule TableCause) → x ≡ Err a → IsOk 
 not_ok a x is_a ok = cc
 
 not_true : (x : Bool) → x ≡ true → x ≡ false → ⊥
-not_true x yes no = cc
+not_true x is isnt = cc
 
 rules-same : (text : List ℕ) (a b : List Rule) → SpellsRules text a → SpellsRules text b → a ≡ b
 rules-same text a b spells_a spells_b =

@@ -81,7 +81,7 @@ module _ (rules : List Rule) (state : ℕ) where
         ∙ ap (λ (r : Rule). Some (unwrap_or (find (is_special fields) found.special.items) r)) (sym rule_is)
 
   true-false : (b : Bool) → b ≡ true → b ≡ false → ⊥
-  true-false b yes no = cc
+  true-false b is isnt = cc
 
   -- no rule of the state is for any packet
   pub AreRulesOf-none : (i : ℕ) (special : List Rule) (found : StateRules) → length rules ≤ i → AreRead i special → AreRulesOf rules state found

@@ -1,10 +1,10 @@
-ghost use Rattle.std.specs.Prelude.{◌≡◌, ◌++◌, ◌∷◌, [], MatchResult, OnOk, Some, None, nat_le, if◌then◌else◌};
+ghost use Rattle.std.specs.Prelude.{◌≡◌, MatchResult, Some, None, nat_le, if◌then◌else◌};
 ghost use Rattle.scr_base.specs.Numbers.{is_number, number_of};
 ghost use Rattle.scr_tables.specs.Spelling.{SpellsRules, RulesRefused, rule_read, parts_read, is_pattern, pattern_of, fits, is_state, is_verdict, verdict_of, in_front, behind};
 
 use crate::rule::{Decision, Pattern, Rule};
 use scr_base::{NumberError, OutOfMemory, read_number};
-use std::alloc::Global;
+use std::alloc::{AllocFailed, Global};
 
 /// The greatest state.
 const GREATEST_STATE: u64 = 15;
@@ -51,18 +51,30 @@ impl From<OutOfMemory> for TableError {
     }
 }
 
+impl From<AllocFailed<Rule>> for TableError {
+    ghost use Rattle.std.specs.Prelude.{◌≡◌};
+    ghost use Rattle.scr_base.specs.declared.out_of_memory.OutOfMemory as base;
+    ghost use Rattle.scr_tables.specs.declared.reading.TableError.TheVariants as error;
+
+    ghost from_gives = { λ _ made. (want : base.OutOfMemory) × (made ≡ error.OutOfMemory want) };
+
+    fn from(failed: AllocFailed<Rule>) -> Self {
+        TableError::OutOfMemory(failed.into())
+    }
+}
+
 /// The rules that a text spells, as `Table::read` says, but that the last cause isn't looked for.
 pub(crate) fn read_rules(alloc: Global, text: &[u8]) -> Result<Vec<Rule>, TableError>
     ensures { MatchResult result (λ rules. SpellsRules text.now rules.items) (λ error. RulesRefused text.now error) }
 {
     let mut rules = Vec::new(alloc);
     let mut place = 0;
-    for rule in text.split(|byte| *byte == b',') {
-        match read_rule(rule, rules.len()) {
-            Ok(rule) => push(&mut rules, rule)?,
+    for piece in text.split(|byte| *byte == b',') {
+        match read_rule(piece, rules.len()) {
+            Ok(rule) => rules.push(rule)?,
             Err(cause) => return Err(TableError::Refused { cause, place }),
         }
-        place += rule.len() as u64 + 1;
+        place += piece.len() as u64 + 1;
     }
     Ok(rules)
 }
@@ -163,12 +175,4 @@ fn cut(text: &[u8], mark: u8) -> (&[u8], &[u8])
         Some(at) => (&text[..at], &text[at + 1..]),
         None => (text, &[]),
     }
-}
-
-// Appends a rule. It stands apart to turn one error into the other.
-fn push(rules: &mut Vec<Rule>, rule: Rule) -> Result<(), OutOfMemory>
-    ensures { OnOk result (rules.new.items ≡ rules.old.items ++ rule ∷ []) }
-{
-    rules.push(rule)?;
-    Ok(())
 }
