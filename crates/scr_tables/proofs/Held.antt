@@ -16,8 +16,9 @@ use Rattle.scr_program.specs.Keys.{is_same_address}
 use Rattle.scr_program.specs.Kinds.{is_packet}
 use Rattle.scr_program.specs.Rows.{unpacked, source_in}
 use Rattle.scr_tables.specs.Rules.{IsTable, holds, is_for, first_rule, is_any, has_any, can_be_held, lacks_any}
-use Rattle.scr_tables.specs.Held.{AreHeld}
-use Rattle.scr_tables.specs.Step.{step, state_of, taken_by}
+use Rattle.scr_tables.specs.Held.{AreHeld, FirstSays}
+use Rattle.scr_tables.specs.Step.{step, state_of, taken_by, verdict_for}
+use Rattle.scr_tables.specs.declared.rule.Decision.{Decision}
 use Rattle.scr_tables.specs.declared.rule.Pattern.{Pattern}
 use Rattle.scr_tables.specs.declared.rule.Pattern.TheVariants.{Any, Tcp, Udp, Port, Flags}
 use Rattle.scr_tables.specs.declared.rule.Rule.{Rule}
@@ -144,3 +145,16 @@ rule-found settings rows source fields =
     let flows = flows_after (step settings) rows in
     any-found settings.table (state_of flows source) fields
     (held-any settings.table (state_of flows source) settings.valid (state-held settings.table flows source (rows-held settings rows)))
+
+-- the step, by what the first rule says
+pub step-taken : (settings : TableSettings) (flows : List (Address × ℕ)) (row : Row) (next : ℕ) (decision : Decision)
+    → is_packet (unpacked row).kind ≡ true → AreHeld settings.table flows
+    → FirstSays settings.table (state_of flows (source_in row)) (unpacked row) (next, decision)
+    → step settings flows row ≡ (set_key is_same_address settings.flows flows (source_in row) next, verdict_for decision)
+unfolding step
+step-taken settings flows row next decision looked held said =
+    let source = source_in row in
+    let first = said (held-any settings.table (state_of flows source) settings.valid (state-held settings.table flows source held)) in
+    let same = ap (λ (n : ℕ). (set_key is_same_address settings.flows flows source n, verdict_for first.0.verdict)) first.2
+        ∙ ap (λ (d : Decision). (set_key is_same_address settings.flows flows source next, verdict_for d)) first.3 in
+    rw (looked, first.1) same

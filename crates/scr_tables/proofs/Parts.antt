@@ -1,5 +1,5 @@
 -- The parts of a rule, read one after another: the first that hasn't its form tells so.
-use Rattle.std.proofs.Common.{◌≡◌, ◌∙◌, ℕ, Bool, true, false, cond, ◌&&◌, not, leb, Option, Some, None, Result, Ok, Err, refl, sym, ap, arith}
+use Rattle.std.proofs.Common.{◌≡◌, ◌∙◌, ℕ, ◌<◌, ◌≤◌, Bool, true, false, cond, ◌&&◌, not, leb, Option, Some, None, Result, Ok, Err, refl, sym, ap, arith}
 use Rattle.std.proofs.lemmas.Bool.Decides.{nat_tests}
 use Rattle.scr_base.specs.Numbers.{is_number, number_of}
 use Rattle.scr_tables.specs.Spelling.{Parts, parts_read, rule_of, is_pattern, is_verdict, is_state, fits, pattern_of, verdict_of}
@@ -27,6 +27,9 @@ module _ {A : Type 0} where
   pub beyond : (test : Bool) (says : A) → cond test (Some says) None ≡ None → test ≡ false
   beyond true says is = absurd cc
   beyond false says is = refl
+
+abbrev a_rule : ℕ → Pattern → ℕ → Decision → Rule
+a_rule state pattern next verdict = record { state = state; pattern = pattern; next = next; verdict = verdict }
 
 module _ (before : ℕ) (parts : Parts) where
   pub no-state : is_number parts.state ≡ false → parts_read before parts ≡ Err Form
@@ -77,3 +80,21 @@ module _ (before : ℕ) (parts : Parts) where
     pub all-within : is_state (number_of parts.state) ≡ true → fits (pattern_of parts.pattern) ≡ true → is_state (number_of parts.next) ≡ true
         → parts_read before parts ≡ few
     all-within state pattern next = ranges ∙ rw (state, pattern, next) refl
+
+    -- behind 256 others, and not
+    pub full : is_state (number_of parts.state) ≡ true → fits (pattern_of parts.pattern) ≡ true → is_state (number_of parts.next) ≡ true
+        → most_rules ≤ before → parts_read before parts ≡ Err Rules
+    full state pattern next many =
+        let test : leb most_rules before ≡ true = grind (arith, nat_tests) in
+        all-within state pattern next ∙ rw test refl
+
+    pub read-all : is_state (number_of parts.state) ≡ true → fits (pattern_of parts.pattern) ≡ true → is_state (number_of parts.next) ≡ true
+        → before < most_rules → (rule : Rule) → number_of parts.state ≡ rule.state → pattern_of parts.pattern ≡ rule.pattern
+        → number_of parts.next ≡ rule.next → verdict_of parts.verdict ≡ rule.verdict → parts_read before parts ≡ Ok rule
+    read-all state pattern next few_before rule s p n v =
+        let test : leb most_rules before ≡ false = grind (arith, nat_tests) in
+        let same : rule_of parts ≡ rule = named (number_of parts.state) rule.state (pattern_of parts.pattern) rule.pattern (number_of parts.next) rule.next (verdict_of parts.verdict) rule.verdict s p n v in
+        all-within state pattern next ∙ rw test (ap Ok same)
+      where
+        named : (s t : ℕ) (p q : Pattern) (n m : ℕ) (v w : Decision) → s ≡ t → p ≡ q → n ≡ m → v ≡ w → a_rule s p n v ≡ a_rule t q m w
+        named s t p q n m v w a b d e = cc

@@ -1,8 +1,10 @@
 -- The rules of one state, read off the list of all rules one after another.
-use Rattle.std.proofs.Common.{◌≡◌, ◌≢◌, ◌∙◌, ℕ, ◌+◌, ◌<◌, ◌≤◌, ◌==◌, ◌&&◌, ◌||◌, Bool, true, false, List, [], ◌∷◌, ◌++◌, length, take, get_or, Option, Some, None, unwrap_or, refl, sym, ap, arith, take_all}
+use Rattle.std.proofs.Common.{◌≡◌, ◌≢◌, ◌∙◌, ℕ, ◌+◌, ◌<◌, ◌≤◌, ◌==◌, ◌&&◌, ◌||◌, Bool, true, false, List, [], ◌∷◌, ◌++◌, length, take, get_or, Option, Some, None, unwrap_or, refl, sym, ap, arith, take_all, subst, inl, inr}
 use Rattle.std.specs.List.{find, list_any}
 use Rattle.std.specs.Option.{option_or}
+use Rattle.std.proofs.lemmas.Bool.{cases_lt}
 use Rattle.std.proofs.lemmas.Bool.Decides.{nat_tests}
+use Rattle.std.proofs.lemmas.List.{get_or_append_left, get_or_push}
 use Rattle.std.proofs.lemmas.List.Folds.{find-append, list_any_more}
 use Rattle.scr_program.specs.declared.fields.Fields.{Fields}
 use Rattle.scr_tables.specs.Rules.{holds, is_for, first_rule, is_any, has_any}
@@ -88,3 +90,16 @@ module _ (rules : List Rule) (state : ℕ) where
   AreRulesOf-none i special found all read = λ fields any.
       let whole : list_any is_any_of rules ≡ false = ap (list_any is_any_of) (sym (take_all i rules all)) ∙ read.none in
       absurd (true-false (has_any rules state) any whole)
+
+-- the rules of one state more
+pub each-push : (rules : List Rule) (by_state : List StateRules) (found : StateRules) (n : ℕ) → length by_state ≡ n → AreRulesOf rules n found
+    → ((state : ℕ) (d : StateRules) → state < n → AreRulesOf rules state (get_or by_state state d))
+    → (state : ℕ) (d : StateRules) → state < n + 1 → AreRulesOf rules state (get_or (by_state ++ found ∷ []) state d)
+each-push rules by_state found n count here before state d within =
+    elim (cases_lt state n) [
+      | inl front ↦ subst (λ (r : StateRules). AreRulesOf rules state r) (sym (get_or_append_left by_state (found ∷ []) d state (omega arith))) (before state d front)
+      | inr back ↦ (
+          let at : n ≡ state = omega arith in
+          subst (λ (r : StateRules). AreRulesOf rules state r) (sym (get_or_push by_state found d state (count ∙ at)))
+          (subst (λ (s : ℕ). AreRulesOf rules s found) at here))
+    ]

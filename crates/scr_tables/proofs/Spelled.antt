@@ -8,18 +8,17 @@ use Rattle.std.proofs.lemmas.List.{get_or_default, get_or_append_left, get_or_pu
 use Rattle.std.proofs.lemmas.List.Folds.{list_any_none}
 use Rattle.std.proofs.lemmas.List.Sums.{sum_by-cons, sum_by_more, sum_by-take-le}
 use Rattle.scr_base.specs.Numbers.{number_of}
-use Rattle.scr_program.specs.Keys.{both}
-use Rattle.scr_tables.specs.Rules.{IsRule, IsTable, most_rules, can_be_held, has_any, lacks_any}
+use Rattle.scr_tables.specs.Rules.{IsRule, IsTable, most_rules, can_be_held, is_any, has_any, lacks_any}
 use Rattle.scr_tables.specs.Spelling.{Parts, rule_texts, rule_read, parts_read, rule_of, parts_of, has_form, is_in_range, is_state, fits, pattern_of, read_at, place_of, SpellsRules, Spells, IsFaulty}
 use Rattle.scr_tables.specs.declared.rule.Rule.{Rule}
 use Rattle.scr_tables.specs.declared.rule.Pattern.TheVariants.{Any}
-use Rattle.scr_tables.specs.declared.rule.Decision.TheVariants.{Drop}
+use Rattle.scr_tables.specs.declared.rule.Decision.TheVariants.{Pass}
 use Rattle.scr_tables.specs.declared.reading.TableCause.{TableCause}
 use Rattle.scr_tables.specs.declared.reading.TableCause.TheVariants.{Empty, Form, Range, Rules}
 
 -- some rule, where one must be named
-pub some_rule : Rule
-some_rule = record { state = 0; pattern = Any; next = 0; verdict = Drop }
+abbrev pub some_rule : Rule
+some_rule = record { state = 0; pattern = Any; next = 0; verdict = Pass }
 
 -- these rules are what the first texts read as
 abbrev pub ReadsTo : List ℕ → List Rule → Type 0
@@ -110,6 +109,10 @@ un-not : (b : Bool) → not b ≡ false → b ≡ true
 un-not true is = refl
 un-not false is = absurd cc
 
+both : (a b : Bool) → (a && b) ≡ true → (a ≡ true) × (b ≡ true)
+both true b is = (refl, is)
+both false b is = absurd cc
+
 IsRule-named : (parts : Parts) → is_in_range parts ≡ true → IsRule (rule_of parts)
 IsRule-named parts within =
     let first = both (is_state (number_of parts.state)) _ within in
@@ -156,6 +159,22 @@ lacks-beyond rules each state beyond =
   where
     differs : (next : ℕ) → next ≤ 15 → (next == state) ≡ false
     differs next small = grind (arith, nat_tests)
+
+-- nor has one a rule
+pub any-small : (rules : List Rule) → All IsRule rules → (state : ℕ) → has_any rules state ≡ true → state < 16
+any-small rules each state has =
+    elim (cases_lt state 16) [
+      | inl small ↦ small
+      | inr beyond ↦ absurd (true-false (has_any rules state) has (list_any_none (λ (rule : Rule). (rule.state == state) && is_any rule.pattern) rules
+          (λ i d within. differs (get_or rules i d).state (is_any (get_or rules i d).pattern) (each i d within).state beyond)))
+    ]
+  where
+    true-false : (b : Bool) → b ≡ true → b ≡ false → ⊥
+    true-false b is isnt = cc
+    differs : (of : ℕ) (any : Bool) → of ≤ 15 → 16 ≤ state → ((of == state) && any) ≡ false
+    differs of any small beyond =
+        let test : (of == state) ≡ false = grind (arith, nat_tests) in
+        rw test refl
 
 -- what a text spells is a table
 pub IsTable-from_rules : (text : List ℕ) (rules : List Rule) → SpellsRules text rules → ((state : ℕ) → lacks_any rules state ≡ false) → IsTable rules

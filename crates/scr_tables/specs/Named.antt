@@ -1,9 +1,8 @@
 -- Each verdict of a table of rules has a name.
-use Rattle.std.specs.Prelude.{◌<◌, ℕ, List, Option, Some, None, not, refl, if◌then◌else◌}
+use Rattle.std.specs.Prelude.{◌<◌, ℕ, List, Option, Some, None, true, false, not, if◌then◌else◌}
 use Rattle.std.proofs.Common.{lit<}
 use Rattle.scr_base.specs.declared.row.Row.{Row}
 use Rattle.scr_base.specs.declared.row.Verdict.{Verdict}
-use Rattle.scr_program.specs.Choices.{outcome-named}
 use Rattle.scr_program.specs.declared.fields.Address.{Address}
 use Rattle.scr_program.specs.Kinds.{is_packet}
 use Rattle.scr_program.specs.Rows.{unpacked}
@@ -28,5 +27,9 @@ unfolding step
 step-named settings flows row =
     let fields = unpacked row in
     let found = first_rule settings.table (state_of flows fields.source) fields in
-    outcome-named 3 (not (is_packet fields.kind)) (flows, OTHER) (taken_by settings.flows flows fields.source found) (lit< tt)
-    (taken-named settings.flows flows fields.source found)
+    let after = taken_by settings.flows flows fields.source found in
+    let IsNamed : List (Address × ℕ) × Verdict → Type 0 = λ answer. answer.1.0 < 3 in
+    elim (is_packet fields.kind) as (λ looked. IsNamed (if not looked then (flows, OTHER) else after)) [
+      | true ↦ taken-named settings.flows flows fields.source found
+      | false ↦ lit< tt
+    ]

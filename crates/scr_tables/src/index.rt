@@ -47,7 +47,8 @@ pub(crate) fn index(alloc: Global, rules: &[Rule]) -> Result<Vec<StateRules>, Ou
 {
     let mut by_state = Vec::new(alloc);
     for state in 0..STATES {
-        by_state.push(rules_of(alloc, rules, state)?)?;
+        let found = rules_of(alloc, rules, state)?;
+        by_state.push(found)?;
     }
     Ok(by_state)
 }

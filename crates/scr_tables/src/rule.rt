@@ -1,4 +1,4 @@
-ghost use Rattle.std.specs.Prelude.{◌≡◌};
+ghost use Rattle.std.specs.Prelude.{◌≡◌, ◌==◌, ◌&&◌};
 ghost use Rattle.scr_tables.specs.Rules.{holds, is_any};
 
 use scr_program::Fields;
@@ -71,4 +71,13 @@ pub struct Rule {
     pub next: u8,
     /// What becomes of the packet.
     pub verdict: Decision,
+}
+
+impl Rule {
+    /// Whether it is a rule of this state for any packet.
+    pub(crate) fn is_any_of(&self, state: u8) -> bool
+        ensures { result ≡ ((self.now.state == state) && is_any self.now.pattern) }
+    {
+        self.state == state && self.pattern.is_any()
+    }
 }

@@ -1,5 +1,6 @@
-ghost use Rattle.std.specs.Prelude.{◌≡◌, ◌<◌, ℕ, List, All, true, false, Some, MatchResult, MatchOption};
-ghost use Rattle.scr_tables.specs.Rules.{IsRule, IsTable, first_rule, has_any, lacks_any};
+ghost use Rattle.std.specs.Prelude.{◌≡◌, ◌<◌, ◌==◌, ℕ, List, All, true, false, Some, MatchResult, MatchOption};
+ghost use Rattle.std.specs.List.{list_any};
+ghost use Rattle.scr_tables.specs.Rules.{IsRule, IsTable, first_rule, can_be_held, has_any, lacks_any};
 ghost use Rattle.scr_tables.specs.Spelling.{Spells, RefusedBy};
 
 use crate::index::{STATES, StateRules, index};
@@ -66,7 +67,8 @@ impl Table {
         ensures { has_any self.now state ≡ true → first_rule self.now state packet.now ≡ Some result }
     {
         // The states of a table are below 16 anyway.
-        self.by_state[usize::from(state % STATES)].rule_for(packet)
+        let rules = &self.by_state[usize::from(state % STATES)];
+        rules.rule_for(packet)
     }
 }
 
@@ -87,9 +89,23 @@ fn first_lacking(rules: &[Rule]) -> Option<u8>
 fn lacks_any(rules: &[Rule], state: u8) -> bool
     ensures { result ≡ lacks_any rules.now state }
 {
-    let can_be_held = state == 0 || rules.iter().any(|rule| rule.next == state);
-    let has_any = rules
-        .iter()
-        .any(|rule| rule.state == state && rule.pattern.is_any());
-    can_be_held && !has_any
+    can_be_held(rules, state) && !has_any(rules, state)
+}
+
+fn can_be_held(rules: &[Rule], state: u8) -> bool
+    ensures { result ≡ can_be_held rules.now state }
+{
+    state == 0 || is_next(rules, state)
+}
+
+fn is_next(rules: &[Rule], state: u8) -> bool
+    ensures { result ≡ list_any (λ rule. rule.next == state) rules.now }
+{
+    rules.iter().any(|rule| rule.next == state)
+}
+
+fn has_any(rules: &[Rule], state: u8) -> bool
+    ensures { result ≡ has_any rules.now state }
+{
+    rules.iter().any(|rule| rule.is_any_of(state))
 }

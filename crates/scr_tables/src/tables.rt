@@ -1,13 +1,14 @@
-ghost use Rattle.std.specs.Prelude.{◌≡◌, IfOk, OnErr, IsOk};
+ghost use Rattle.std.specs.Prelude.{◌≡◌, IfOk, OnErr, IsOk, unwrap_or};
 ghost use Rattle.scr_program.proofs.Folds.{verdict_after-named};
 ghost use Rattle.scr_tables.specs.Rows.{fields_kept, row_of};
 ghost use Rattle.scr_tables.specs.State.{StandsFor as stands_for, IsReady as is_ready};
 ghost use Rattle.scr_tables.specs.Step.{names, step, verdict_for, verdict_after_rows, count_after_rows};
-ghost use Rattle.scr_tables.specs.Held.{AreHeld};
+ghost use Rattle.scr_tables.specs.Held.{AreHeld, FirstSays};
 ghost use Rattle.scr_tables.specs.Named.{step-named};
 
 use crate::rule::Decision;
 use crate::settings::TableSettings;
+use crate::table::Table;
 use scr_base::{OutOfMemory, Row, Verdict};
 use scr_frame::Parsed;
 use scr_program::{
@@ -134,10 +135,18 @@ fn answer(
         return Ok(OTHER);
     }
     let decision = flows.update(&fields.source, |state| {
-        let rule = settings.table.rule_for(state.unwrap_or(0), &fields);
-        (rule.next, rule.verdict)
+        first_says(&settings.table, state, &fields)
     })?;
     Ok(verdict_for(decision))
+}
+
+// The next state and the verdict of the first rule for a packet whose source is in this state, or absent.
+#[inline(always)]
+fn first_says(table: &Table, state: Option<u8>, packet: &Fields) -> (u8, Decision)
+    ensures { FirstSays table.now (unwrap_or state 0) packet.now result }
+{
+    let rule = table.rule_for(state.unwrap_or(0), packet);
+    (rule.next, rule.verdict)
 }
 
 fn verdict_for(decision: Decision) -> Verdict
