@@ -17,5 +17,7 @@ returns c = λ has.
     let place : c.args.state % 16 ≡ c.args.state = omega arith in
     let d = c.index-rules.result.now in
     let at = c.self.invariant.1.each c.args.state d small c.args.packet.now inside in
-    let entry = c.index-rules.ensures in
-    ?
+    let entry : d ≡ get_or c.self.inside.by_state.items c.args.state d =
+    c.index-rules.ensures ∙ ap (λ (i : ℕ). get_or c.self.inside.by_state.items i d) (c.from.ensures ∙ place) in
+    ap (λ (rs : List Rule). first_rule rs c.args.state c.args.packet.now) (sym same) ∙ at
+    ∙ ap (λ (r : StateRules). Some (rule_among r c.args.packet.now)) (sym entry) ∙ ap Some (sym c.rule_for.ensures)
