@@ -30,6 +30,7 @@ mod commands;
 mod engine;
 mod fault_line;
 mod found;
+mod laws;
 mod names;
 mod plain;
 mod status;
@@ -39,6 +40,7 @@ mod top;
 
 pub use engine::run_engine;
 pub use fault_line::{tell_want, write_fault_line};
+pub use laws::plain_without_drops;
 pub use names::names_of;
 pub use plain::plain_run;
 pub use scr_words::{
