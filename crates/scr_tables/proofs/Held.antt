@@ -1,5 +1,5 @@
 -- After any rows each source is in a state that a run can hold, and in such a state some rule is for each packet.
-use Rattle.std.proofs.Common.{◌≡◌, ◌∙◌, ℕ, ◌<◌, Bool, true, false, ◌&&◌, ◌||◌, not, ◌==◌, cond, List, [], ◌∷◌, ◌++◌, length, take, map, get_or, All, Option, Some, None, IfSome, IsSome, unwrap_or, refl, sym, ap, arith, subst, fold}
+use Rattle.std.proofs.Common.{◌≡◌, ◌∙◌, ℕ, Bool, true, false, ◌&&◌, ◌||◌, not, ◌==◌, cond, List, [], ◌∷◌, All, Option, Some, None, IfSome, IsSome, unwrap_or, refl, ap, arith, subst, fold}
 use Rattle.std.specs.List.{find, list_any}
 use Rattle.std.specs.Map.{lookup, values_of, remove_entry}
 use Rattle.std.proofs.lemmas.Bool.Decides.{nat_tests}
@@ -15,7 +15,7 @@ use Rattle.scr_program.specs.Folds.{flows_after}
 use Rattle.scr_program.specs.Keys.{is_same_address}
 use Rattle.scr_program.specs.Kinds.{is_packet}
 use Rattle.scr_program.specs.Rows.{unpacked, source_in}
-use Rattle.scr_tables.specs.Rules.{IsTable, holds, is_for, first_rule, is_any, has_any, can_be_held, lacks_any}
+use Rattle.scr_tables.specs.Rules.{IsTable, holds, is_for, first_rule, is_any, has_any, can_be_held}
 use Rattle.scr_tables.specs.Held.{AreHeld, FirstSays}
 use Rattle.scr_tables.specs.Step.{step, state_of, taken_by, verdict_for}
 use Rattle.scr_tables.specs.declared.rule.Decision.{Decision}
@@ -156,5 +156,5 @@ step-taken settings flows row next decision looked held said =
     let source = source_in row in
     let first = said (held-any settings.table (state_of flows source) settings.valid (state-held settings.table flows source held)) in
     let same = ap (λ (n : ℕ). (set_key is_same_address settings.flows flows source n, verdict_for first.0.verdict)) first.2
-        ∙ ap (λ (d : Decision). (set_key is_same_address settings.flows flows source next, verdict_for d)) first.3 in
+    ∙ ap (λ (d : Decision). (set_key is_same_address settings.flows flows source next, verdict_for d)) first.3 in
     rw (looked, first.1) same

@@ -1,9 +1,9 @@
 -- A text spells one table, or is refused with one cause at one place.
-use Rattle.std.proofs.Common.{◌≡◌, ℕ, ◌<◌, Bool, true, false, List, get_or, length, Result, Ok, Err, ◌⊎◌, inl, inr, arith, sym, ap, ◌∙◌, subst}
+use Rattle.std.proofs.Common.{◌≡◌, ℕ, ◌<◌, Bool, true, false, List, get_or, Result, Ok, Err, inl, inr, arith, sym, ap, ◌∙◌}
 use Rattle.std.specs.Result.{IsOk}
 use Rattle.std.proofs.lemmas.List.{same_lists}
 use Rattle.scr_tables.specs.Rules.{lacks_any}
-use Rattle.scr_tables.specs.Spelling.{rule_texts, read_at, place_of, SpellsRules, Spells, IsFaulty, IsIncomplete, IsRefused}
+use Rattle.scr_tables.specs.Spelling.{read_at, place_of, SpellsRules, Spells, IsFaulty, IsIncomplete, IsRefused}
 use Rattle.scr_tables.specs.declared.rule.Rule.{Rule}
 use Rattle.scr_tables.specs.declared.reading.TableCause.{TableCause}
 use Rattle.scr_tables.proofs.Spelled.{some_rule}

@@ -1,5 +1,5 @@
 -- The parts of a rule, read one after another: the first that hasn't its form tells so.
-use Rattle.std.proofs.Common.{◌≡◌, ◌∙◌, ℕ, ◌<◌, ◌≤◌, Bool, true, false, cond, ◌&&◌, not, leb, Option, Some, None, Result, Ok, Err, refl, sym, ap, arith}
+use Rattle.std.proofs.Common.{◌≡◌, ◌∙◌, ℕ, ◌<◌, ◌≤◌, Bool, true, false, cond, ◌&&◌, not, leb, Some, None, Result, Ok, Err, refl, ap, arith}
 use Rattle.std.proofs.lemmas.Bool.Decides.{nat_tests}
 use Rattle.scr_base.specs.Numbers.{is_number, number_of}
 use Rattle.scr_tables.specs.Spelling.{Parts, parts_read, rule_of, is_pattern, is_verdict, is_state, fits, pattern_of, verdict_of}

@@ -1,9 +1,9 @@
 -- Any text spells a table, or is refused.
-use Rattle.std.proofs.Common.{◌≡◌, ℕ, zero, suc, ◌+◌, ◌<◌, ◌≤◌, Bool, true, false, List, [], ◌∷◌, ◌++◌, length, Result, Ok, Err, ◌⊎◌, inl, inr, arith, refl, sym, ap, ◌∙◌}
+use Rattle.std.proofs.Common.{◌≡◌, ℕ, zero, suc, ◌<◌, ◌≤◌, Bool, true, false, List, [], ◌∷◌, ◌++◌, length, Result, Ok, Err, ◌⊎◌, inl, inr, arith, refl, ap, ◌∙◌}
 use Rattle.std.proofs.lemmas.Bool.{cases_lt}
 use Rattle.std.proofs.lemmas.List.{length_push}
 use Rattle.scr_tables.specs.Rules.{lacks_any}
-use Rattle.scr_tables.specs.Spelling.{rule_texts, read_at, place_of, SpellsRules, Spells, IsFaulty, IsRefused}
+use Rattle.scr_tables.specs.Spelling.{rule_texts, read_at, place_of, Spells, IsFaulty, IsRefused}
 use Rattle.scr_tables.specs.declared.rule.Rule.{Rule}
 use Rattle.scr_tables.specs.declared.reading.TableCause.{TableCause}
 use Rattle.scr_tables.specs.declared.reading.TableCause.TheVariants.{NoAny}
@@ -62,21 +62,28 @@ pub some_reading : (text : List ℕ) → HasReading text
 some_reading text = from (front text (length (rule_texts text)) (omega arith))
   where
     whole : (read : ReadSoFar text (length (rule_texts text))) → NoneBelow read.rules 16 ⊎ Least read.rules → HasReading text
-    whole read (inr found) = inr (NoAny, found.least, inr (record {
-      rules = read.rules;
-      spelled = record { count = read.count; each = read.reads };
-      cause_is = refl;
-      lacks = found.lacks;
-      below = found.below;
-    }))
-    whole read (inl none) = inl (read.rules, record {
-      spelled = record { count = read.count; each = read.reads };
-      complete = λ state.
-          elim (cases_lt state 16) [
-            | inl small ↦ none state small
-            | inr beyond ↦ lacks-beyond read.rules (each-from_reads text read.rules read.reads) state beyond
-          ];
-    })
+    whole read (inr found) = inr (
+      NoAny,
+      found.least,
+      inr (record {
+        rules = read.rules;
+        spelled = record { count = read.count; each = read.reads };
+        cause_is = refl;
+        lacks = found.lacks;
+        below = found.below;
+      }),
+    )
+    whole read (inl none) = inl (
+      read.rules,
+      record {
+        spelled = record { count = read.count; each = read.reads };
+        complete = λ state.
+            elim (cases_lt state 16) [
+              | inl small ↦ none state small
+              | inr beyond ↦ lacks-beyond read.rules (each-from_reads text read.rules read.reads) state beyond
+            ];
+      },
+    )
 
     from : ReadSoFar text (length (rule_texts text)) ⊎ Refused text → HasReading text
     from (inl read) = whole read (least read.rules 16)

@@ -1,5 +1,5 @@
 -- The rules of one state, read off the list of all rules one after another.
-use Rattle.std.proofs.Common.{◌≡◌, ◌≢◌, ◌∙◌, ℕ, ◌+◌, ◌<◌, ◌≤◌, ◌==◌, ◌&&◌, ◌||◌, Bool, true, false, List, [], ◌∷◌, ◌++◌, length, take, get_or, Option, Some, None, unwrap_or, refl, sym, ap, arith, take_all, subst, inl, inr}
+use Rattle.std.proofs.Common.{◌≡◌, ◌≢◌, ◌∙◌, ℕ, ◌+◌, ◌<◌, ◌≤◌, ◌==◌, ◌&&◌, Bool, true, false, List, [], ◌∷◌, ◌++◌, length, take, get_or, Option, Some, None, unwrap_or, refl, sym, ap, arith, take_all, subst, inl, inr}
 use Rattle.std.specs.List.{find, list_any}
 use Rattle.std.specs.Option.{option_or}
 use Rattle.std.proofs.lemmas.Bool.{cases_lt}
@@ -7,13 +7,13 @@ use Rattle.std.proofs.lemmas.Bool.Decides.{nat_tests}
 use Rattle.std.proofs.lemmas.List.{get_or_append_left, get_or_push}
 use Rattle.std.proofs.lemmas.List.Folds.{find-append, list_any_more}
 use Rattle.scr_program.specs.declared.fields.Fields.{Fields}
-use Rattle.scr_tables.specs.Rules.{holds, is_for, first_rule, is_any, has_any}
-use Rattle.scr_tables.specs.Index.{rule_among, AreRulesOf}
+use Rattle.scr_tables.specs.Rules.{holds, is_for, is_any, has_any}
+use Rattle.scr_tables.specs.Index.{AreRulesOf}
 use Rattle.scr_tables.specs.declared.index.StateRules.{StateRules}
 use Rattle.scr_tables.specs.declared.rule.Pattern.{Pattern}
 use Rattle.scr_tables.specs.declared.rule.Pattern.TheVariants.{Any, Tcp, Udp, Port, Flags}
 use Rattle.scr_tables.specs.declared.rule.Rule.{Rule}
-use Rattle.scr_tables.proofs.Firsts.{find-more, find-past, find-here, head-passes, head-fails}
+use Rattle.scr_tables.proofs.Firsts.{find-more, find-past, find-here}
 
 any-holds : (pattern : Pattern) (fields : Fields) → is_any pattern ≡ true → holds pattern fields ≡ true
 any-holds Any fields is = refl

@@ -1,5 +1,5 @@
 -- The rules of a table, read one after another.
-use Rattle.std.proofs.Common.{◌≡◌, ℕ, suc, ◌+◌, ◌<◌, ◌≤◌, List, [], ◌∷◌, ◌++◌, length, get_or, All, Bool, true, false, cond, eqb, leb, not, ◌&&◌, ◌||◌, ◌==◌, Result, Ok, Err, inl, inr, arith, refl, sym, ap, ◌∙◌, subst}
+use Rattle.std.proofs.Common.{◌≡◌, ℕ, suc, ◌+◌, ◌<◌, ◌≤◌, List, [], ◌∷◌, ◌++◌, length, get_or, All, Bool, true, false, cond, eqb, leb, not, ◌&&◌, ◌==◌, Result, Ok, Err, inl, inr, arith, refl, sym, ap, ◌∙◌, subst}
 use Rattle.std.specs.List.{slice_split, onto_first, sum_by, list_any}
 use Rattle.std.specs.Result.{IsOk}
 use Rattle.std.proofs.lemmas.Bool.{cases_lt}
@@ -8,13 +8,13 @@ use Rattle.std.proofs.lemmas.List.{get_or_default, get_or_append_left, get_or_pu
 use Rattle.std.proofs.lemmas.List.Folds.{list_any_none}
 use Rattle.std.proofs.lemmas.List.Sums.{sum_by-cons, sum_by_more, sum_by-take-le}
 use Rattle.scr_base.specs.Numbers.{number_of}
-use Rattle.scr_tables.specs.Rules.{IsRule, IsTable, most_rules, can_be_held, is_any, has_any, lacks_any}
-use Rattle.scr_tables.specs.Spelling.{Parts, rule_texts, rule_read, parts_read, rule_of, parts_of, has_form, is_in_range, is_state, fits, pattern_of, read_at, place_of, SpellsRules, Spells, IsFaulty}
+use Rattle.scr_tables.specs.Rules.{IsRule, IsTable, most_rules, is_any, has_any, lacks_any}
+use Rattle.scr_tables.specs.Spelling.{Parts, rule_texts, rule_read, parts_read, rule_of, parts_of, has_form, is_in_range, is_state, fits, pattern_of, read_at, place_of, SpellsRules, IsFaulty}
 use Rattle.scr_tables.specs.declared.rule.Rule.{Rule}
 use Rattle.scr_tables.specs.declared.rule.Pattern.TheVariants.{Any}
 use Rattle.scr_tables.specs.declared.rule.Decision.TheVariants.{Pass}
 use Rattle.scr_tables.specs.declared.reading.TableCause.{TableCause}
-use Rattle.scr_tables.specs.declared.reading.TableCause.TheVariants.{Empty, Form, Range, Rules}
+use Rattle.scr_tables.specs.declared.reading.TableCause.TheVariants.{Form, Range, Rules}
 
 -- some rule, where one must be named
 abbrev pub some_rule : Rule
@@ -171,6 +171,7 @@ any-small rules each state has =
   where
     true-false : (b : Bool) → b ≡ true → b ≡ false → ⊥
     true-false b is isnt = cc
+
     differs : (of : ℕ) (any : Bool) → of ≤ 15 → 16 ≤ state → ((of == state) && any) ≡ false
     differs of any small beyond =
         let test : (of == state) ≡ false = grind (arith, nat_tests) in

@@ -1,5 +1,5 @@
 -- The rules of a table by their states, so that a step looks at those of one state alone.
-use Rattle.std.specs.Prelude.{◌≡◌, ℕ, ◌<◌, true, List, length, Option, Some, unwrap_or}
+use Rattle.std.specs.Prelude.{◌≡◌, ℕ, ◌<◌, true, List, length, Some, unwrap_or}
 use Rattle.std.specs.List.{find, slice_index_or}
 use Rattle.scr_program.specs.declared.fields.Fields.{Fields}
 use Rattle.scr_tables.specs.Rules.{holds, first_rule, has_any}

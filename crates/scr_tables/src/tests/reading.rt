@@ -12,7 +12,8 @@ fn refusal(alloc: Global, text: &[u8]) -> Option<(TableCause, u64)> {
 
 #[test]
 fn reads_each_pattern(rt: HostRuntime) -> Result<(), Fail> {
-    let text = b"0:t>1/P,00:u>015/D,0:d0>1/D,0:d00065535>1/P,0:f255>1/P,0:*>0/D,1:*>1/P,15:*>0/P,7:f0>0/P";
+    let text =
+        b"0:t>1/P,00:u>015/D,0:d0>1/D,0:d00065535>1/P,0:f255>1/P,0:*>0/D,1:*>1/P,15:*>0/P,7:f0>0/P";
     let want: [(u8, Pattern, u8, Decision); 9] = [
         (0, Pattern::Tcp, 1, Decision::Pass),
         (0, Pattern::Udp, 15, Decision::Drop),

@@ -39,7 +39,8 @@ const OTHER: Parsed = Parsed {
 };
 
 /// Three knocks, at 7000, 8000 and 9000, open the door.
-const KNOCK: &[u8] = b"0:d7000>1/D,0:*>0/D,1:d8000>2/D,1:d7000>1/D,1:*>0/D,2:d9000>3/D,2:d7000>1/D,2:*>0/D,3:*>3/P";
+const KNOCK: &[u8] =
+    b"0:d7000>1/D,0:*>0/D,1:d8000>2/D,1:d7000>1/D,1:*>0/D,2:d9000>3/D,2:d7000>1/D,2:*>0/D,3:*>3/P";
 
 /// Three RST lock a source out.
 const LOCK_OUT: &[u8] = b"0:f4>1/P,0:*>0/P,1:f4>2/P,1:*>1/P,2:f4>3/D,2:*>2/P,3:*>3/D";
@@ -168,8 +169,19 @@ fn locks_out_after_three_resets(rt: HostRuntime) -> Result<(), Fail> {
 #[test]
 fn lets_in_behind_udp_and_then_tcp(rt: HostRuntime) -> Result<(), Fail> {
     let settings = settings(rt.alloc(), UDP_THEN_TCP, 4096)?;
-    let packets = [segment(2), DATAGRAM, BARE, segment(2), DATAGRAM, DATAGRAM, segment(2), BARE];
-    let want = ["DROP", "DROP", "DROP", "DROP", "DROP", "DROP", "DROP", "PASS"];
+    let packets = [
+        segment(2),
+        DATAGRAM,
+        BARE,
+        segment(2),
+        DATAGRAM,
+        DATAGRAM,
+        segment(2),
+        BARE,
+    ];
+    let want = [
+        "DROP", "DROP", "DROP", "DROP", "DROP", "DROP", "DROP", "PASS",
+    ];
     let (names, _) = run::<Tables>(rt.alloc(), &settings, &packets)?;
     assert_eq!(rt; names.as_slice(), want.as_slice());
     Ok(())

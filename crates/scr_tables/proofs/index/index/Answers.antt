@@ -1,5 +1,5 @@
 -- The rules of one state after the other.
-use Rattle.std.proofs.Common.{◌≡◌, ◌∙◌, ◌+◌, ◌∷◌, [], ◌++◌, length, ap, arith, rules}
+use Rattle.std.proofs.Common.{◌∙◌, ◌+◌, length, ap}
 use Rattle.std.proofs.lemmas.List.{length_push}
 use Rattle.scr_tables.proofs.Special.{each-push}
 use Rattle.scr_tables.proofs.index.index.Goals as goal

@@ -1,8 +1,7 @@
 -- The rules of a state up to the first for any packet.
-use Rattle.std.proofs.Common.{◌≡◌, ◌∙◌, ◌+◌, List, get_or, refl, sym}
+use Rattle.std.proofs.Common.{◌∙◌, get_or, refl, sym}
 use Rattle.scr_tables.specs.declared.index.StateRules.{StateRules}
 use Rattle.scr_tables.specs.declared.rule.Decision.TheVariants.{Drop}
-use Rattle.scr_tables.specs.declared.rule.Rule.{Rule}
 use Rattle.scr_tables.proofs.Special.{AreRead-none, AreRead-other, AreRead-special, AreRulesOf-found, AreRulesOf-none}
 use Rattle.scr_tables.proofs.Spelled.{some_rule}
 use Rattle.scr_tables.proofs.index.rules_of.Goals as goal

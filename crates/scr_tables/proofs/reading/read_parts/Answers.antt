@@ -1,11 +1,9 @@
 -- The parts of a rule, by what each of them says.
-use Rattle.std.proofs.Common.{◌≡◌, ◌∙◌, ◌≤◌, true, false, leb, Ok, Err, refl, sym, ap, arith}
-use Rattle.std.proofs.lemmas.Bool.Decides.{nat_tests}
+use Rattle.std.proofs.Common.{◌∙◌, ◌≤◌, Err, sym, ap}
 use Rattle.std.proofs.lemmas.Result.{err_from_is_err_and}
 use Rattle.scr_tables.specs.Rules.{most_rules}
 use Rattle.scr_tables.specs.Spelling.{Parts}
-use Rattle.scr_tables.specs.declared.reading.TableCause.TheVariants.{Form, Range, Rules}
-use Rattle.scr_tables.proofs.Parts.{AreFormed, formed, unformed, within, beyond, no-next, no-verdict, far-state, far-pattern, far-next, all-within, full, read-all}
+use Rattle.scr_tables.proofs.Parts.{AreFormed, formed, unformed, within, beyond, no-next, no-verdict, far-state, far-pattern, far-next, full, read-all}
 use Rattle.scr_tables.proofs.reading.read_parts.Goals as goal
 
 pub returns-in_err-next : goal.returns-in_err-next

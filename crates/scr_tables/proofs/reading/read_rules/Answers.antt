@@ -1,4 +1,4 @@
-use Rattle.std.proofs.Common.{◌≡◌, ◌+◌, ◌<◌, ℕ, length, [], ◌∷◌, ◌++◌, Ok, rules, tests, sym, ◌∙◌, ap, arith, List, get_or, eqb, subst}
+use Rattle.std.proofs.Common.{◌≡◌, ◌+◌, ◌<◌, ℕ, length, [], ◌∷◌, ◌++◌, rules, tests, sym, ◌∙◌, ap, arith, List, get_or, eqb, subst}
 use Rattle.std.proofs.lemmas.Iterator.Splits.{YieldsList-from_slice_split}
 use Rattle.std.proofs.lemmas.Iterator.Consumers.{YieldsList-turn, YieldsList-end}
 use Rattle.std.proofs.lemmas.List.{length_push}

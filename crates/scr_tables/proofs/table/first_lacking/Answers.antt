@@ -1,5 +1,5 @@
 -- No state that a run can hold is above 15.
-use Rattle.std.proofs.Common.{◌≡◌, ◌∙◌, inl, inr, arith, sym}
+use Rattle.std.proofs.Common.{◌∙◌, inl, inr, arith, sym}
 use Rattle.std.proofs.lemmas.Bool.{cases_lt}
 use Rattle.scr_tables.proofs.Spelled.{lacks-beyond}
 use Rattle.scr_tables.proofs.table.first_lacking.Goals as goal

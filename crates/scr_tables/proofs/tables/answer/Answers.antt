@@ -1,5 +1,5 @@
 -- What the first rule says of the packet is what the step makes of it.
-use Rattle.std.proofs.Common.{◌≡◌, ◌∙◌, ℕ, List, true, not, sym, ap, subst, rules, unwrap_or}
+use Rattle.std.proofs.Common.{◌≡◌, ◌∙◌, ℕ, List, true, sym, ap, subst, rules, unwrap_or}
 use Rattle.std.specs.Map.{lookup}
 use Rattle.scr_base.specs.declared.row.Verdict.{Verdict}
 use Rattle.scr_program.specs.FlowList.{set_key}

@@ -1,5 +1,5 @@
 -- The first of the special rules, or else the one for any packet.
-use Rattle.std.proofs.Common.{◌≡◌, ◌∙◌, Bool, true, List, length, take, get_or, take_all, Option, Some, None, unwrap_or, sym, ap}
+use Rattle.std.proofs.Common.{◌≡◌, ◌∙◌, Bool, take, get_or, take_all, Option, Some, None, unwrap_or, sym, ap}
 use Rattle.std.specs.List.{find}
 use Rattle.std.specs.Option.{option_or}
 use Rattle.scr_tables.specs.Rules.{holds}

@@ -1,5 +1,5 @@
 -- What was read is a table, and its index is one of its rules.
-use Rattle.std.proofs.Common.{◌∙◌, ℕ, All, List, sym, ap, subst}
+use Rattle.std.proofs.Common.{◌∙◌, All, List, sym, ap, subst}
 use Rattle.scr_tables.specs.Index.{IsIndex}
 use Rattle.scr_tables.specs.Rules.{IsRule, lacks_any}
 use Rattle.scr_tables.specs.declared.rule.Rule.{Rule}
@@ -14,6 +14,6 @@ first_lacking-requires c =
 pub invariant_of-result : goal.invariant_of-result
 invariant_of-result c = (
   IsTable-from_rules c.args.text.now c.in_ok-rules.rules.items c.in_ok-rules.ensures
-  (λ state. ap (λ (rules : List Rule). lacks_any rules state) (sym c.deref.ensures.value) ∙ c.in_default.ensures state),
+      (λ state. ap (λ (rules : List Rule). lacks_any rules state) (sym c.deref.ensures.value) ∙ c.in_default.ensures state),
   subst (λ (rules : List Rule). IsIndex rules c.in_ok-by_state.by_state.items) c.deref-2.ensures.value c.in_ok-by_state.ensures,
 )

@@ -1,6 +1,5 @@
 -- The rules at the place of a state are those of the state, which is below 16 where it has a rule for any packet.
-use Rattle.std.proofs.Common.{◌≡◌, ◌∙◌, ℕ, ◌<◌, ◌%◌, List, Some, get_or, true, sym, ap, arith, subst}
-use Rattle.scr_program.specs.declared.fields.Fields.{Fields}
+use Rattle.std.proofs.Common.{◌≡◌, ◌∙◌, ℕ, ◌<◌, ◌%◌, List, Some, get_or, true, sym, ap, arith}
 use Rattle.scr_tables.specs.Rules.{first_rule, has_any}
 use Rattle.scr_tables.specs.Index.{rule_among}
 use Rattle.scr_tables.specs.declared.index.StateRules.{StateRules}

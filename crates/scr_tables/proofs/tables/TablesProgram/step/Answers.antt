@@ -1,5 +1,5 @@
 -- After a step the table stands for one row more.
-use Rattle.std.proofs.Common.{◌≡◌, ℕ, List, sym, subst}
+use Rattle.std.proofs.Common.{ℕ, List, sym, subst}
 use Rattle.scr_program.specs.declared.fields.Address.{Address}
 use Rattle.scr_program.proofs.Folds.{Stands-push, Stands-verdict}
 use Rattle.scr_tables.specs.Held.{AreHeld}
