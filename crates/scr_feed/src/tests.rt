@@ -103,8 +103,9 @@ fn whole_lanes_between_two_threads(rt: HostRuntime) -> Result<(), Fail> {
     let (feed, mut ends) = Feed::make(rt.alloc(), &plan, 2)?;
     let one = ends.pop().ok_or("an end")?;
     let zero = ends.pop().ok_or("another end")?;
-    let (of_zero, of_one) =
-        through_threads(&rt, rt.alloc(), feed, zero, one).ok_or("the whole lanes")?;
+    let (of_zero, of_one) = through_threads(&rt, rt.alloc(), feed, zero, one).ok_or(
+        "the whole lanes",
+    )?;
     let lane = odd_frames_with_beacons(rt.alloc())?;
     assert_eq!(rt; lane.len(), 303);
     assert_eq!(rt; of_zero.as_slice(), lane.as_slice());

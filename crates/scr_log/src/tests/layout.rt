@@ -10,5 +10,4 @@ pub fn of_two_cores()
     ensures finished_of_one { place 4 1 (finished_offset 4) ≡ 65 }
     ensures claim { claim_place 2 4 ≡ 66 }
     ensures halt { halt_place 2 4 ≡ 67 }
-{
-}
+{}

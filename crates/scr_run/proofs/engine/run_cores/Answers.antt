@@ -34,8 +34,10 @@ write_found-requires-clause-counted g c κs within =
 pub returns-in_err-rows : goal.returns-in_err-rows
 returns-in_err-rows g c =
     let failed = err_from_is_err_and c.from_residual.result c.from_residual.ensures.1 in
-    record { ends = rw failed.1 (rw failed.2 (Ends-stopped _ (g.S.Source.left c.args.capture.now) _ _ g.O.Sink.written g.O.Sink.faults g.O.Sink.wants c.args.out.now _ _ _ tt
-    c.in_err-rows.ensures.stop)) }
+    record {
+      ends = rw failed.1 (rw failed.2 (Ends-stopped _ (g.S.Source.left c.args.capture.now) _ _ g.O.Sink.written g.O.Sink.faults g.O.Sink.wants c.args.out.now _ _ _ tt
+          c.in_err-rows.ensures.stop));
+    }
 
 pub returns : goal.returns
 returns g c =
@@ -52,6 +54,8 @@ returns g c =
     let shaped = plan-of plan (rows_of row_of rows.0) shape.cores shape.history shape.drops
     (c.make-plan.ensures.rows ∙ rows.2) c.make-plan.ensures.cores c.make-plan.ensures.history c.make-plan.ensures.drops in
     let is = ap (λ (o : Outcome). report_text names o c.args.with_verdicts) (outcome ∙ ap (λ (p : Plan). outcome_of rules p) shaped) in
-    record { ends = Ends-behind g.O.Sink.written g.O.Sink.faults g.O.Sink.wants _ _ _ _ _ _ _ _ (ended c.write_found.result)
-    (IsOfCapture-from (shaped_text rules shape c.args.with_verdicts) _ (g.S.Source.left c.args.capture.now) rows.0 rows.1 is)
-    c.in_ok-rows.ensures.end c.in_ok-rows.ensures.calm c.write_found.ensures.ends }
+    record {
+      ends = Ends-behind g.O.Sink.written g.O.Sink.faults g.O.Sink.wants _ _ _ _ _ _ _ _ (ended c.write_found.result)
+          (IsOfCapture-from (shaped_text rules shape c.args.with_verdicts) _ (g.S.Source.left c.args.capture.now) rows.0 rows.1 is)
+          c.in_ok-rows.ensures.end c.in_ok-rows.ensures.calm c.write_found.ensures.ends;
+    }

@@ -13,7 +13,7 @@ returns c rules shape records none =
     let plan = shaped shape rows in
     let one = undivided rows in
     let text : List Given → ℕ → ℕ → ℕ → List ℕ =
-        λ given delivered kept flows. report_text rules.names (report_of rules.names given (length rows) delivered kept [] flows) true in
+    λ given delivered kept flows. report_text rules.names (report_of rules.names given (length rows) delivered kept [] flows) true in
     let law = c.none_dropped.ensures in
     ap (λ (given : List Given). text given (delivered_count plan) (kept_count plan) (entries rules.count_after plan)) (law.verdicts rules.verdict_after plan none)
     ∙ ap (λ (delivered : ℕ). text (verdicts rules.verdict_after one) delivered (kept_count plan) (entries rules.count_after plan)) (law.delivered plan none ∙ sym (law.delivered one refl))
