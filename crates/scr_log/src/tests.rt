@@ -21,12 +21,7 @@ const ROW: Row = Row {
 };
 
 // A plan for two cores, with so many packets, such a history, and these frames dropped.
-fn two_cores(
-    alloc: Global,
-    packets: usize,
-    history: u32,
-    dropped: &[u8],
-) -> Result<RunPlan, Fail>
+fn two_cores(alloc: Global, packets: usize, history: u32, dropped: &[u8]) -> Result<RunPlan, Fail>
     requires few { packets ≤ 1000000 }
     requires short { history ≤ 64 }
     ensures packets { IfOk result (λ plan. length plan.rows ≡ packets) }

@@ -231,7 +231,14 @@ fn counts_the_names(rt: HostRuntime) -> Result<(), Fail> {
         delivered: 3,
         kept: 3,
     };
-    let report = Report::of(rt.alloc(), &names, verdicts, counts, Vec::new(rt.alloc()), 1)?;
+    let report = Report::of(
+        rt.alloc(),
+        &names,
+        verdicts,
+        counts,
+        Vec::new(rt.alloc()),
+        1,
+    )?;
     assert_eq!(rt; report.totals.as_slice(), &[2u64, 0, 1][..]);
     verdicts_then_rest();
     Ok(())
