@@ -1,4 +1,5 @@
-ghost use Rattle.std.specs.Prelude.{◌≡◌, ◌<◌, ◌-◌, ◌^◌, length, ForOk, IfOk, IfErr};
+ghost use Rattle.std.specs.Prelude.{◌≡◌, ◌<◌, ◌-◌, ◌^◌, length, IfOk, IfErr};
+ghost use Rattle.std.specs.Result.{ForOk};
 ghost use Rattle.std.specs.Io.KnownBytes.{IsAtEnd};
 ghost use Rattle.scr_run.specs.declared.status.Status.{Status};
 ghost use Rattle.scr_run.specs.Asked.{IsAsked, TakeCapture};
@@ -24,7 +25,7 @@ pub fn ended<S: Source, O: Sink, E: Sink>(
     // Over words: a run, as the contract of `scr_main` says, its line, and its code.
     ensures run { IfOk words (λ words. (status : Status) × (result ≡ code_of status)
         × Ends (IsAsked words.items (S.left capture.old)) (TakeCapture words.items) (TakeCapture words.items → IsAtEnd (S.left capture.new))
-            O.written (S.faults capture.old) (S.faults capture.new) O.faults O.wants out.old out.new status
+        O.written (S.faults capture.old) (S.faults capture.new) O.faults O.wants out.old out.new status
         × IsTold E.written E.faults E.wants err.old err.new (fault_line status)) }
 
     // Over none.

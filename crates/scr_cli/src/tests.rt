@@ -41,7 +41,9 @@ fn too_large(alloc: Global) -> Result<Vec<u8>, AllocError> {
 
 #[test]
 fn tells_why_there_are_no_words(rt: HostRuntime) {
-    let refused = too_large(rt.alloc()).err().expect(&rt, "no memory is so large");
+    let refused = too_large(rt.alloc())
+        .err()
+        .expect(&rt, "no memory is so large");
     let wanted = words_given(rt.alloc(), Err(refused.into()));
     assert!(rt; matches!(wanted, Err(NoWords::OutOfMemory(_))));
     let no_text = words_given(rt.alloc(), Err(io::ErrorKind::InvalidData.into()));
@@ -86,7 +88,9 @@ fn runs_the_words(rt: HostRuntime) -> Result<(), Fail> {
 
 #[test]
 fn ends_where_there_are_no_words(rt: HostRuntime) -> Result<(), Fail> {
-    let refused = too_large(rt.alloc()).err().expect(&rt, "no memory is so large");
+    let refused = too_large(rt.alloc())
+        .err()
+        .expect(&rt, "no memory is so large");
     let want = OutOfMemory::from(refused);
     for none in [NoWords::OutOfMemory(want), NoWords::TooMany] {
         let (code, out, err) = run_over(rt.alloc(), Err(none))?;
