@@ -61,7 +61,7 @@ fn run_command<P: Program, S: Source, O: Sink>(
 ) -> Result<(), Status>
     ensures ends { Ends
         (IsByCommand (text_by (ruled_by (P.row_of settings.now) (P.verdict_after settings.now) (P.count_after settings.now) P.verdict_names) chosen.command chosen.shape)
-            (generated_records chosen.start chosen.frames chosen.hosts) (S.left capture.old) chosen.command)
+        (generated_records chosen.start chosen.frames chosen.hosts) (S.left capture.old) chosen.command)
         (makes_load chosen.command ≡ false) (makes_load chosen.command ≡ false → IsAtEnd (S.left capture.new))
         O.written (S.faults capture.old) (S.faults capture.new) O.faults O.wants out.old out.new (ended result) }
     ensures unread { makes_load chosen.command ≡ true → capture.new ≡ capture.old }
@@ -82,7 +82,7 @@ fn run_load<P: Program, O: Sink>(
 ) -> Result<(), Status>
     ensures ends { Ends
         (IsText (shaped_text (ruled_by (P.row_of settings.now) (P.verdict_after settings.now) (P.count_after settings.now) P.verdict_names) chosen.shape false
-            (generated_records chosen.start chosen.frames chosen.hosts)))
+        (generated_records chosen.start chosen.frames chosen.hosts)))
         ⊥ (Unit {0}) O.written 0 0 O.faults O.wants out.old out.new (ended result) }
 {
     let bytes = generate(alloc, chosen.start, chosen.frames, chosen.hosts)?;

@@ -80,14 +80,7 @@ pub fn run_engine<P: Program, S: Source, O: Sink>(
     ensures writes { O.faults out.new ≡ writes_behind result (O.faults out.old) }
     ensures wants { IsWantsBehind result (O.wants out.old) (O.wants out.new) }
 {
-    Status::of(run_cores::<P, S, O>(
-        alloc,
-        settings,
-        shape,
-        with_verdicts,
-        capture,
-        out,
-    ))
+    Status::of(run_cores::<P, S, O>(alloc, settings, shape, with_verdicts, capture, out))
 }
 
 /// The same, as how it ended tells it.

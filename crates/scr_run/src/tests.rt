@@ -385,8 +385,12 @@ fn a_program_runs_by_itself(rt: HostRuntime) -> Result<(), Fail> {
     assert_eq!(rt; out.written(), REPORT.as_bytes());
     let mut source = SureSource::new(whole_capture(rt.alloc())?, 100);
     let mut out = SureSink::new(rt.alloc(), 100);
-    let status =
-        plain_run::<Ddos, SureSource, SureSink>(rt.alloc(), &settings, &mut source, &mut out);
+    let status = plain_run::<Ddos, SureSource, SureSink>(
+        rt.alloc(),
+        &settings,
+        &mut source,
+        &mut out,
+    );
     assert_eq!(rt; status, Status::Done);
     assert_eq!(rt; out.written(), PLAIN_REPORT.as_bytes());
     Ok(())

@@ -1,13 +1,14 @@
-use Rattle.std.proofs.Common.{Some, Ok, ap, ◌∙◌, subst, refl, ℕ, List}
-use Rattle.scr_pcap.specs.Generated.{generated, generated_records}
-use Rattle.scr_pcap.specs.Reading.{IsReading}
+use Rattle.std.proofs.Common.{Some, ap, refl, ℕ, List}
+use Rattle.scr_pcap.specs.Generated.{generated_records}
 use Rattle.scr_pcap.proofs.OneReading.{same_readings}
-use Rattle.scr_run.specs.Ends.{IsText, ended}
+use Rattle.scr_run.specs.Ends.{ended}
 use Rattle.scr_run.proofs.Loading.{Ends-of_load}
 use Rattle.scr_run.proofs.commands.run_load.Goals as goal
 
 pub returns : goal.returns
 returns g c =
     let chosen = c.args.chosen in
-    record { ends = Ends-of_load _ c.in_ok-bytes.bytes.items _ (generated_records chosen.start chosen.frames chosen.hosts) _ g.O.Sink.written g.O.Sink.faults g.O.Sink.wants _ _ _ _ _ 0
-    (ended c.run_cores.result) (same_readings c.in_ok-bytes.bytes.items) (ap (λ (b : List ℕ). Some b) c.new-made.ensures.left) c.in_ok-bytes.ensures.reading refl tt c.run_cores.ensures.ends }
+    record {
+      ends = Ends-of_load _ c.in_ok-bytes.bytes.items _ (generated_records chosen.start chosen.frames chosen.hosts) _ g.O.Sink.written g.O.Sink.faults g.O.Sink.wants _ _ _ _ _ 0
+          (ended c.run_cores.result) (same_readings c.in_ok-bytes.bytes.items) (ap (λ (b : List ℕ). Some b) c.new-made.ensures.left) c.in_ok-bytes.ensures.reading refl tt c.run_cores.ensures.ends;
+    }

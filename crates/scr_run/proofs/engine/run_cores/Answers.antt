@@ -1,5 +1,4 @@
-use Rattle.std.proofs.Common.{◌≡◌, ◌<◌, ℕ, List, All, length, ap, ◌∙◌, sym, subst, refl}
-use Rattle.std.specs.Io.KnownBytes.{IsAtEnd}
+use Rattle.std.proofs.Common.{◌≡◌, ◌<◌, List, All, length, ap, ◌∙◌, sym, subst, refl}
 use Rattle.std.proofs.lemmas.Result.{err_from_is_err_and}
 use Rattle.scr_plan.specs.declared.given.Given.{Given}
 use Rattle.scr_plan.specs.Plan.{Plan, frame_count}
@@ -8,7 +7,6 @@ use Rattle.scr_replica.proofs.Counted.{length-verdicts-delivered, verdicts-named
 use Rattle.scr_report.specs.Outcome.{Outcome, report_of, report_text, totals_of}
 use Rattle.scr_run.specs.Rules.{Rules, ruled_by}
 use Rattle.scr_run.specs.RunReport.{rows_of, outcome_of, shaped_text}
-use Rattle.scr_run.specs.Asked.{IsOfCapture}
 use Rattle.scr_run.specs.Ends.{ended}
 use Rattle.scr_run.proofs.Ending.{Ends-behind, Ends-stopped}
 use Rattle.scr_run.proofs.Written.{plan-of, IsOfCapture-from}
@@ -34,8 +32,10 @@ write_found-requires-clause-counted g c κs within =
 pub returns-in_err-rows : goal.returns-in_err-rows
 returns-in_err-rows g c =
     let failed = err_from_is_err_and c.from_residual.result c.from_residual.ensures.1 in
-    record { ends = rw failed.1 (rw failed.2 (Ends-stopped _ (g.S.Source.left c.args.capture.now) _ _ g.O.Sink.written g.O.Sink.faults g.O.Sink.wants c.args.out.now _ _ _ tt
-    c.in_err-rows.ensures.stop)) }
+    record {
+      ends = rw failed.1 (rw failed.2 (Ends-stopped _ (g.S.Source.left c.args.capture.now) _ _ g.O.Sink.written g.O.Sink.faults g.O.Sink.wants c.args.out.now _ _ _ tt
+          c.in_err-rows.ensures.stop));
+    }
 
 pub returns : goal.returns
 returns g c =
@@ -52,6 +52,8 @@ returns g c =
     let shaped = plan-of plan (rows_of row_of rows.0) shape.cores shape.history shape.drops
     (c.make-plan.ensures.rows ∙ rows.2) c.make-plan.ensures.cores c.make-plan.ensures.history c.make-plan.ensures.drops in
     let is = ap (λ (o : Outcome). report_text names o c.args.with_verdicts) (outcome ∙ ap (λ (p : Plan). outcome_of rules p) shaped) in
-    record { ends = Ends-behind g.O.Sink.written g.O.Sink.faults g.O.Sink.wants _ _ _ _ _ _ _ _ (ended c.write_found.result)
-    (IsOfCapture-from (shaped_text rules shape c.args.with_verdicts) _ (g.S.Source.left c.args.capture.now) rows.0 rows.1 is)
-    c.in_ok-rows.ensures.end c.in_ok-rows.ensures.calm c.write_found.ensures.ends }
+    record {
+      ends = Ends-behind g.O.Sink.written g.O.Sink.faults g.O.Sink.wants _ _ _ _ _ _ _ _ (ended c.write_found.result)
+          (IsOfCapture-from (shaped_text rules shape c.args.with_verdicts) _ (g.S.Source.left c.args.capture.now) rows.0 rows.1 is)
+          c.in_ok-rows.ensures.end c.in_ok-rows.ensures.calm c.write_found.ensures.ends;
+    }

@@ -1,4 +1,4 @@
-use Rattle.std.proofs.Common.{◌≡◌, ◌<◌, true, List, All, length, ap, ◌∙◌, sym, subst, arith, refl, [], ℕ}
+use Rattle.std.proofs.Common.{◌≡◌, ◌<◌, true, List, All, length, ap, ◌∙◌, sym, subst, arith, refl, []}
 use Rattle.scr_plan.specs.declared.given.Given.{Given}
 use Rattle.std.proofs.lemmas.Result.{err_from_is_err_and}
 use Rattle.scr_plan.specs.Plan.{frame_count}
@@ -29,8 +29,10 @@ write_found-requires-clause-named g c κs within =
 pub returns-in_err-core : goal.returns-in_err-core
 returns-in_err-core g c =
     let failed = err_from_is_err_and c.from_residual.result c.from_residual.ensures.1 in
-    record { ends = rw failed.1 (rw failed.2 (Ends-stopped _ (g.S.Source.left c.args.capture.now) _ _ g.O.Sink.written g.O.Sink.faults g.O.Sink.wants c.args.out.now _ _ _ tt
-    c.in_err-core.ensures.stop)) }
+    record {
+      ends = rw failed.1 (rw failed.2 (Ends-stopped _ (g.S.Source.left c.args.capture.now) _ _ g.O.Sink.written g.O.Sink.faults g.O.Sink.wants c.args.out.now _ _ _ tt
+          c.in_err-core.ensures.stop));
+    }
 
 pub returns : goal.returns
 returns g c =
@@ -51,6 +53,8 @@ returns g c =
     let outcome : c.in_ok-report.report ≡ record (outcome_of rules plan) { cores = [] } =
     found ∙ (λ i. report_of names (answer.2 i) (counted i) (delivered i) (kept i) [] (sym (entries-undivided count_after rows) i)) in
     let is = ap (λ (o : Outcome). report_text names o true) outcome in
-    record { ends = Ends-behind g.O.Sink.written g.O.Sink.faults g.O.Sink.wants _ _ _ _ _ _ _ _ (ended c.write_found.result)
-    (IsOfCapture-from (plain_text rules) _ (g.S.Source.left c.args.capture.now) answer.0 answer.1 is)
-    c.in_ok-core.ensures.end c.in_ok-core.ensures.calm c.write_found.ensures.ends }
+    record {
+      ends = Ends-behind g.O.Sink.written g.O.Sink.faults g.O.Sink.wants _ _ _ _ _ _ _ _ (ended c.write_found.result)
+          (IsOfCapture-from (plain_text rules) _ (g.S.Source.left c.args.capture.now) answer.0 answer.1 is)
+          c.in_ok-core.ensures.end c.in_ok-core.ensures.calm c.write_found.ensures.ends;
+    }
