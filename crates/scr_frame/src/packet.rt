@@ -100,10 +100,6 @@ pub(crate) fn ipv6(bytes: &[u8]) -> Option<Packet>
         protocol: bytes[6],
         fragment: 0,
         header: IPV6_HEADER,
-        length: told_or_captured(
-            payload,
-            u32::from(IPV6_HEADER) + u32::from(payload),
-            bytes,
-        ),
+        length: told_or_captured(payload, u32::from(IPV6_HEADER) + u32::from(payload), bytes),
     })
 }

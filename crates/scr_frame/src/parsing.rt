@@ -3,8 +3,8 @@ ghost use Rattle.std.specs.Option.{option_map};
 ghost use Rattle.scr_frame.specs.Fields.{ethernet, transport, fields};
 
 use crate::codes::{
-    ETHERNET_HEADER, LONGEST_FRAME, TAGGED_HEADER, TCP, TCP_HEADER, TCP_WORDS, TYPE_IPV4, TYPE_IPV6,
-    TYPE_TAG, UDP, UDP_HEADER,
+    ETHERNET_HEADER, LONGEST_FRAME, TAGGED_HEADER, TCP, TCP_HEADER, TCP_WORDS, TYPE_IPV4,
+    TYPE_IPV6, TYPE_TAG, UDP, UDP_HEADER,
 };
 use crate::number::u16_at;
 use crate::packet::{Packet, ipv4, ipv6};
@@ -72,7 +72,10 @@ fn transport(packet: &Packet, bytes: &[u8]) -> Parsed
     let start = usize::from(packet.header);
     let end = bytes.len().min(packet.length as usize);
     match packet.protocol {
-        TCP if packet.fragment == 0 && start + TCP_HEADER <= end && bytes[start + 12] >> 4 >= TCP_WORDS => {
+        TCP
+            if packet.fragment == 0
+                && start + TCP_HEADER <= end
+                && bytes[start + 12] >> 4 >= TCP_WORDS => {
             let header = &bytes[start..];
             packet.with_transport(Kind::Tcp, u16_at(header, 0), u16_at(header, 2), header[13])
         }
