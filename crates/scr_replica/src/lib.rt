@@ -12,8 +12,10 @@
 //!
 //! **What is proved.** A run by phases gives the verdicts and the entries of the one-core answer, and the counts of each core
 //! as the plan defines them. It returns, and waits for nobody. Want of memory is its only other answer. Where no frame is
-//! dropped, the one-core answer is over all rows ([`one_core_of_all`]). One verdict is given for each delivered frame, in capture order ([`one_verdict_each`]). Lemmas of proofs/Deciding.antt say what a core knows
-//! after each message of its lane: just the packets that these messages decide, each by its final entry.
+//! dropped, the one-core answer is over all rows ([`one_core_of_all`]) and that of one core that is given every frame
+//! ([`none_dropped`]). One verdict is given for each delivered frame, in capture order ([`one_verdict_each`]). Lemmas of
+//! proofs/Deciding.antt say what a core knows after each message of its lane: just the packets that these messages decide,
+//! each by its final entry.
 //!
 //! **What is only tested.** That there is an answer where there is memory, and the verdicts, counts and entries of runs that
 //! were worked out by hand.
