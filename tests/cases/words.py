@@ -1,5 +1,6 @@
 """Command words: those that are refused, with the first cause of the first word, and those that are taken."""
 import itertools
+import random
 
 from captures import capture, header
 from model import Outcome, answer, fault
@@ -264,3 +265,44 @@ def bare_words(program):
     for order in itertools.islice(itertools.permutations(["program=ddos", "threshold=2", "cores=1", "flows=4096", "drop="]), 0,
                                   120, 13):
         yield f"{order}", compare(program, ["run", *order], FOUR, four)
+
+
+# Names that no operand has, and values of each kind: good ones, the ends of ranges, one too many, and other texts.
+NO_NAMES = ["", "Program", "programs", "core", "delay", "x" * 300]
+NUMBERS = ["0", "1", "2", "7", "16", "17", "64", "65", "007", "0" * 30 + "3", "4096", "4097", "65536", "65537", NINES]
+TEXTS = ["", "x", "-1", "1x", " 1", "1=1", "yes", "no", "YES", "1,2,3", "0,1,2", "1,2", "0,x,1", "80,443,65536"]
+LISTS = ["1", "1,2", "2-4", "1-9/3", "1,,2", "0", "3-1", "1-", "1/2", "00002-4/01", "1000000000", "1000000001", "2,0,x"]
+RANDOM_LISTS = 600
+
+
+def any_word(draw, names):
+    """A word with one of these names and some value."""
+    name = draw.choice(names)
+    if name == "program":
+        return f"program={draw.choice([*OWN, 'dns', 'chain', '', 'ddos '])}"
+    lists = LISTS if name == "drop" else NUMBERS
+    return f"{name}={draw.choice(TEXTS if draw.random() < 0.2 else lists)}"
+
+
+def any_words(draw):
+    """A command line whose words fit more often than not."""
+    command, chosen = draw.choice(COMMANDS), draw.choice([*OWN])
+    own = ["flows", *OWN[chosen], *(OF_CORES if command != "plain" else []), *(OF_LOAD if command == "load" else [])]
+    names = draw.sample(own, draw.randrange(min(5, len(own))))
+    words = [f"program={chosen}"] * (draw.random() < 0.9)
+    words += [f"{name}={SAMPLE[name]}" if draw.random() < 0.7 else any_word(draw, [name]) for name in names]
+    if draw.random() < 0.3:
+        words.append(draw.choice([any_word(draw, ["program", *SAMPLE]), any_word(draw, NO_NAMES), draw.choice([*SAMPLE, ""])]))
+    draw.shuffle(words)
+    return [command if draw.random() < 0.97 else draw.choice(["walk", ""]), *words]
+
+
+def random_words(program):
+    """Random lists of words, the same in each run: each is accepted or refused as the model says."""
+    draw, accepted = random.Random(11), 0
+    for _ in range(RANDOM_LISTS):
+        words = any_words(draw)
+        accepted += answer(words, FOUR).status == 0
+        yield f"{words}"[:200], compare(program, words, FOUR)
+    some = RANDOM_LISTS // 4 < accepted < RANDOM_LISTS * 3 // 4
+    yield "how many are accepted", None if some else f"{accepted} of {RANDOM_LISTS}"

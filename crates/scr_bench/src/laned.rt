@@ -1,9 +1,10 @@
 //! The messages of one core through its lane, from one thread to another.
-use crate::feed::Feed;
 use crate::measure::Frames;
 use crate::rows::plan_of;
+use crate::stop::Stop;
 use scr_base::OutOfMemory;
-use scr_lane::{Lane, ReceiveEnd};
+use scr_feed::{Feed, Step};
+use scr_lane::ReceiveEnd;
 use scr_wire::{MessageKind, Packet, decode};
 use std::alloc::Global;
 use std::sync::Wait;
@@ -18,43 +19,55 @@ pub fn lane_received<R: Threads + Wait + Sync>(
     rt: &R,
     alloc: Global,
     frames: Frames,
-) -> Result<u64, OutOfMemory> {
+) -> Result<u64, Stop> {
     let plan = plan_of(alloc, 1, frames.count)?;
-    let (send, receive) = Lane::make(alloc, &plan, 0, CAPACITY)?;
-    let feed = Feed::new(alloc, &plan, 0, send);
+    let (feed, mut ends) = Feed::make(alloc, &plan, CAPACITY)?;
+    let Some(end) = ends.pop() else {
+        return Ok(0);
+    };
     let gave_up = AtomicBool::new(false);
-    let (sent, received) = thread::join(
-        rt,
-        || feed_all(rt, feed, &gave_up),
-        || receive_all(rt, receive, &gave_up),
-    );
-    sent?;
-    Ok(received)
+    let gave_up = &gave_up;
+    thread::scope(thread::scope_env(), rt, |scope| {
+        let feeding = scope.spawn(move || feed_all(rt, feed, gave_up));
+        if feeding.is_err() {
+            return Err(Stop::NoThread);
+        }
+        receive_all(rt, end, gave_up).ok_or(Stop::GaveUp)
+    })
 }
 
-// Sends the whole lane, and tells the other end where there was no memory for it.
-fn feed_all<R: Wait>(rt: &R, feed: Feed<'_>, gave_up: &AtomicBool) -> Result<(), OutOfMemory> {
-    let sent = feed.run(rt);
-    if sent.is_err() {
+// Sends the whole lane, and tells where there was no memory for it.
+fn feed_all<R: Wait>(rt: &R, feed: Feed<'_>, gave_up: &AtomicBool) {
+    if send_all(rt, feed).is_err() {
         gave_up.store(true, Ordering::SeqCst);
     }
-    sent
 }
 
-// Takes all messages up to the end, or until the other end gave up.
-fn receive_all<R: Wait>(rt: &R, mut end: ReceiveEnd, gave_up: &AtomicBool) -> u64 {
+fn send_all<R: Wait>(rt: &R, mut feed: Feed<'_>) -> Result<(), OutOfMemory> {
+    for _ in rt.forever() {
+        match feed.step(rt)? {
+            Step::Taken | Step::Sent { .. } => {}
+            Step::Full { .. } => thread::yield_now(),
+            Step::Done => return Ok(()),
+        }
+    }
+    unreachable!()
+}
+
+// Takes all messages up to the end. None where the sender gave up.
+fn receive_all<R: Wait>(rt: &R, mut end: ReceiveEnd, gave_up: &AtomicBool) -> Option<u64> {
     let mut sum = 0u64;
     for _ in rt.forever() {
-        match end.pop(rt) {
-            Some(packet) => {
-                let (more, is_end) = added(sum, &packet);
-                if is_end {
-                    return more;
-                }
-                sum = more;
+        if end.has_item() {
+            let (more, is_end) = added(sum, &end.pop(rt));
+            if is_end {
+                return Some(more);
             }
-            None if gave_up.load(Ordering::SeqCst) => return sum,
-            None => thread::yield_now(),
+            sum = more;
+        } else if gave_up.load(Ordering::SeqCst) {
+            return None;
+        } else {
+            thread::yield_now();
         }
     }
     unreachable!()

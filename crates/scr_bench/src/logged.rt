@@ -1,11 +1,12 @@
 //! Rows through the logs of some cores, each in a thread.
-ghost use Rattle.std.specs.Prelude.{◌≡◌, ◌≢◌, ◌≤◌, ◌<◌, ◌+◌, length, true};
-ghost use Rattle.scr_plan.specs.Plan.{frame_count};
+ghost use Rattle.std.specs.Prelude.{◌≡◌, ◌≢◌, ◌≤◌, ◌<◌, ◌+◌, length, true, None, MatchOption};
 ghost use Rattle.scr_plan.specs.FinalEntry.{final_entry};
+ghost use Rattle.scr_log.specs.Passes.{IsNext, IsCurrent};
 
 use crate::measure::{Cores, Shared};
 use crate::rows::plan_of;
-use scr_base::{OutOfMemory, Row};
+use crate::stop::Stop;
+use scr_base::Row;
 use scr_log::{CorePass, FreePass, Logs, Look, Room};
 use scr_plan::RunPlan;
 use std::alloc::Global;
@@ -20,20 +21,21 @@ pub fn rows_found<R: Threads + Wait + Sync>(
     rt: &R,
     alloc: Global,
     shared: Shared,
-) -> Result<u64, OutOfMemory> {
-    match shared.cores {
+) -> Result<u64, Stop> {
+    let found = match shared.cores {
         Cores::Two => {
             let plan = plan_of(alloc, 2, shared.rows)?;
             let (logs, mut first) = Logs::make(alloc, &plan, SLOTS)?;
             let second = first.split(&logs);
-            Ok(by_two(rt, &logs, &plan, first, second))
+            by_two(rt, &logs, &plan, first, second)
         }
         Cores::Four => {
             let plan = plan_of(alloc, 4, shared.rows)?;
             let (logs, first) = Logs::make(alloc, &plan, SLOTS)?;
-            Ok(by_four(rt, &logs, &plan, first))
+            by_four(rt, &logs, &plan, first)
         }
-    }
+    };
+    found.ok_or(Stop::NoThread)
 }
 
 fn by_four<R: Threads + Wait + Sync>(
@@ -41,51 +43,82 @@ fn by_four<R: Threads + Wait + Sync>(
     logs: &Logs,
     plan: &RunPlan,
     mut first: FreePass,
-) -> u64
+) -> Option<u64>
     requires of_these { first.logs ≡ logs.now }
     requires plan { logs.now.plan ≡ plan.now }
-    requires stock { 4 ≤ first.stock }
+    requires stock { 5 ≤ first.stock }
     requires few { length plan.now.rows ≤ 1000000 }
 {
     let second = first.split(logs);
     let third = first.split(logs);
     let fourth = first.split(logs);
-    let (one, other) = thread::join(
+    let mut halting = first.split(logs);
+    thread::scope(
+        thread::scope_env(),
         rt,
-        ||
-            requires of_these { (first.logs ≡ logs.now) × (second.logs ≡ logs.now) }
+        |scope|
+            requires of_these { (first.logs ≡ logs.now) × (second.logs ≡ logs.now) × (third.logs ≡ logs.now) × (fourth.logs ≡ logs.now) × (halting.logs ≡ logs.now) }
             requires plan { logs.now.plan ≡ plan.now }
-            requires stock { (1 ≤ first.stock) × (1 ≤ second.stock) }
+            requires stock { (1 ≤ first.stock) × (1 ≤ second.stock) × (1 ≤ third.stock) × (1 ≤ fourth.stock) }
             requires few { length plan.now.rows ≤ 1000000 }
-        { by_two(rt, logs, plan, first, second) },
-        ||
-            requires of_these { (third.logs ≡ logs.now) × (fourth.logs ≡ logs.now) }
-            requires plan { logs.now.plan ≡ plan.now }
-            requires stock { (1 ≤ third.stock) × (1 ≤ fourth.stock) }
-            requires few { length plan.now.rows ≤ 1000000 }
-        { by_two(rt, logs, plan, third, fourth) },
-    );
-    one.wrapping_add(other)
+        {
+            let Ok(others) = scope.spawn(
+                move ||
+                    requires of_these { (first.logs ≡ logs.now) × (second.logs ≡ logs.now) }
+                    requires plan { logs.now.plan ≡ plan.now }
+                    requires stock { (1 ≤ first.stock) × (1 ≤ second.stock) }
+                    requires few { length plan.now.rows ≤ 1000000 }
+                { by_two(rt, logs, plan, first, second) },
+            ) else {
+                return None;
+            };
+            let two = by_two(rt, logs, plan, third, fourth);
+            if two.is_none() {
+                logs.halt_by_main(&mut halting);
+            }
+            Some(others.join(rt)?.wrapping_add(two?))
+        },
+    )
 }
 
+// Two cores. Where no thread can be started, the others are told to end, and there is no answer.
 fn by_two<R: Threads + Wait + Sync>(
     rt: &R,
     logs: &Logs,
     plan: &RunPlan,
     first: FreePass,
-    second: FreePass,
-) -> u64
+    mut second: FreePass,
+) -> Option<u64>
     requires of_these { (first.logs ≡ logs.now) × (second.logs ≡ logs.now) }
     requires plan { logs.now.plan ≡ plan.now }
     requires stock { (1 ≤ first.stock) × (1 ≤ second.stock) }
     requires few { length plan.now.rows ≤ 1000000 }
 {
-    let (one, other) = thread::join(
+    thread::scope(
+        thread::scope_env(),
         rt,
-        || by_core(rt, logs, plan, first),
-        || by_core(rt, logs, plan, second),
-    );
-    one.wrapping_add(other)
+        |scope|
+            requires of_these { (first.logs ≡ logs.now) × (second.logs ≡ logs.now) }
+            requires plan { logs.now.plan ≡ plan.now }
+            requires stock { (1 ≤ first.stock) × (1 ≤ second.stock) }
+            requires few { length plan.now.rows ≤ 1000000 }
+        {
+            let other = scope.spawn(
+                move ||
+                    requires of_these { first.logs ≡ logs.now }
+                    requires plan { logs.now.plan ≡ plan.now }
+                    requires stock { 1 ≤ first.stock }
+                    requires few { length plan.now.rows ≤ 1000000 }
+                { by_core(rt, logs, plan, first) },
+            );
+            let Ok(other) = other else {
+                logs.halt_by_main(&mut second);
+                return None;
+            };
+            let mine = by_core(rt, logs, plan, second);
+            Some(mine.wrapping_add(other.join(rt)))
+        },
+    )
 }
 
 // A core goes through all packets. It looks at the others for those that are lost to it.
@@ -102,7 +135,9 @@ fn by_core<R: Wait>(rt: &R, logs: &Logs, plan: &RunPlan, free: FreePass) -> u64
     for i in 0..plan.rows().len() as u32 {
         let p = i + 1;
         let own = plan.final_entry(pass.core(), p);
-        publish_when_free(rt, logs, &mut pass, p, own);
+        if !publish_when_free(rt, logs, &mut pass, p, own.as_ref()) {
+            break;
+        }
         if own.is_none() {
             sum = sum.wrapping_add(found(rt, logs, &mut pass, p));
         }
@@ -111,69 +146,56 @@ fn by_core<R: Wait>(rt: &R, logs: &Logs, plan: &RunPlan, free: FreePass) -> u64
     sum
 }
 
-// Publishes the final entry for packet p, where the slot is free.
-fn publish(logs: &Logs, pass: &mut CorePass, p: u32, entry: Option<Row>) -> bool
-    requires of_these { pass.old.logs ≡ logs.now }
-    requires next { p ≡ pass.old.published + 1 }
-    requires idle { pass.old.published ≡ pass.old.finished }
-    requires within { p ≤ frame_count logs.now.plan }
-    requires entry { final_entry logs.now.plan pass.old.core p ≡ entry }
-    ensures published { result ≡ true → pass.new.published ≡ p }
-    ensures waits { result ≢ true → pass.new.published ≡ pass.old.published }
-    ensures finished { pass.new.finished ≡ pass.old.finished }
-    ensures same { pass.new.logs ≡ pass.old.logs }
-    ensures core { pass.new.core ≡ pass.old.core }
+// Pauses, and tells whether the run goes on.
+fn goes_on(logs: &Logs, pass: &mut CorePass) -> bool
+    requires { pass.old.logs ≡ logs.now }
+    ensures { pass.new ≡ record pass.old { looks = pass.new.looks } }
 {
-    match logs.room(pass, p) {
-        Room::NoRoom { .. } => false,
-        Room::Free => {
-            match entry {
-                Some(row) => logs.publish_row(pass, p, &row),
-                None => logs.publish_lost(pass, p),
-            }
-            true
-        }
-    }
+    thread::yield_now();
+    !logs.halted(pass)
 }
 
-// The same, when the slot is free.
-fn publish_when_free<R: Wait>(rt: &R, logs: &Logs, pass: &mut CorePass, p: u32, entry: Option<Row>)
-    requires of_these { pass.old.logs ≡ logs.now }
-    requires next { p ≡ pass.old.published + 1 }
-    requires idle { pass.old.published ≡ pass.old.finished }
-    requires within { p ≤ frame_count logs.now.plan }
-    requires entry { final_entry logs.now.plan pass.old.core p ≡ entry }
-    ensures published { pass.new.published ≡ p }
-    ensures finished { pass.new.finished ≡ pass.old.finished }
-    ensures same { pass.new.logs ≡ pass.old.logs }
+// Publishes the final entry for packet p when the slot is free, unless the run is over before.
+fn publish_when_free<R: Wait>(
+    rt: &R,
+    logs: &Logs,
+    pass: &mut CorePass,
+    p: u32,
+    entry: Option<&Row>,
+) -> bool
+    requires next { IsNext logs.now pass.old p }
+    requires entry { MatchOption entry (final_entry logs.now.plan pass.old.core p ≡ None) (λ row. final_entry logs.now.plan pass.old.core p ≡ Some row.now) }
+    ensures published { result ≡ true → IsCurrent logs.now pass.new p }
     ensures core { pass.new.core ≡ pass.old.core }
 {
     for _ in rt.forever() {
-        if publish(logs, pass, p, entry) {
-            return;
+        if logs.publish(pass, p, entry) == Room::Free {
+            return true;
         }
-        thread::yield_now();
+        if !goes_on(logs, pass) {
+            return false;
+        }
     }
     unreachable!()
 }
 
-// The row of packet p in the log of another core, or none where it is lost there.
+// The row of packet p in the log of another core, or none where it is lost there, or the run is over.
 fn entry_of<R: Wait>(rt: &R, logs: &Logs, pass: &mut CorePass, core: u32, p: u32) -> Option<Row>
-    requires of_these { pass.old.logs ≡ logs.now }
     requires core { core < logs.now.plan.cores }
     requires other { core ≢ pass.old.core }
-    requires published { p ≡ pass.old.published }
-    requires finished { p ≡ pass.old.finished + 1 }
-    ensures published { pass.new.published ≡ pass.old.published }
-    ensures finished { pass.new.finished ≡ pass.old.finished }
-    ensures same { pass.new.logs ≡ pass.old.logs }
+    requires current { IsCurrent logs.now pass.old p }
+    ensures current { IsCurrent logs.now pass.new p }
     ensures core { pass.new.core ≡ pass.old.core }
 {
     for _ in rt.forever() {
         match logs.look(pass, core, p) {
             Look::Row(row) => return Some(row),
             Look::Lost => return None,
-            Look::NotYet { .. } => thread::yield_now(),
+            Look::NotYet { .. } => {
+                if !goes_on(logs, pass) {
+                    return None;
+                }
+            }
         }
     }
     unreachable!()
@@ -181,12 +203,8 @@ fn entry_of<R: Wait>(rt: &R, logs: &Logs, pass: &mut CorePass, core: u32, p: u32
 
 // A checksum of the row of packet p, which another core has, or 0 where none has it.
 fn found<R: Wait>(rt: &R, logs: &Logs, pass: &mut CorePass, p: u32) -> u64
-    requires of_these { pass.old.logs ≡ logs.now }
-    requires published { p ≡ pass.old.published }
-    requires finished { p ≡ pass.old.finished + 1 }
-    ensures published { pass.new.published ≡ pass.old.published }
-    ensures finished { pass.new.finished ≡ pass.old.finished }
-    ensures same { pass.new.logs ≡ pass.old.logs }
+    requires { IsCurrent logs.now pass.old p }
+    ensures current { IsCurrent logs.now pass.new p }
     ensures core { pass.new.core ≡ pass.old.core }
 {
     let own = pass.core();

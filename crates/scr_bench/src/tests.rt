@@ -46,7 +46,7 @@ fn verdicts_of_a_connection(rt: HostRuntime) -> Result<(), OutOfMemory> {
 }
 
 #[test]
-fn messages_through_a_lane(rt: HostRuntime) -> Result<(), OutOfMemory> {
+fn messages_through_a_lane(rt: HostRuntime) -> Result<(), Fail> {
     // Frame 1, frame 2, end 2, of which a frame has one row.
     let two = Frames { count: 2 };
     assert_eq!(rt; lane_received(&rt, rt.alloc(), two)?, 4_260_607_558_657);
@@ -60,7 +60,7 @@ fn messages_through_a_lane(rt: HostRuntime) -> Result<(), OutOfMemory> {
 }
 
 #[test]
-fn rows_found_by_cores(rt: HostRuntime) -> Result<(), OutOfMemory> {
+fn rows_found_by_cores(rt: HostRuntime) -> Result<(), Fail> {
     // Rows of 0, 32 and 64, each found by all cores but one.
     let two = Shared {
         cores: Cores::Two,

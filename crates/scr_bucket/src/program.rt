@@ -47,10 +47,12 @@ impl Keyed for Bucket {
 
     ghost other_is_named = { lit< tt };
 
+    #[inline(always)]
     fn looks_at(kind: u16) -> bool {
         is_packet(kind)
     }
 
+    #[inline(always)]
     fn kept(fields: &Fields) -> Fields {
         Fields {
             flags: 0,
@@ -59,6 +61,7 @@ impl Keyed for Bucket {
         }
     }
 
+    #[inline(always)]
     fn key(fields: &Fields) -> FiveTuple {
         FiveTuple::of(fields)
     }
@@ -74,6 +77,7 @@ impl Keyed for Bucket {
         table.update(flow, |known| taken(filled(settings, known, time)))
     }
 
+    #[inline(always)]
     fn passed_over() -> Verdict {
         OTHER
     }

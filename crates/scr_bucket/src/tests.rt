@@ -193,3 +193,15 @@ fn takes_settings_in_their_ranges(rt: HostRuntime) {
         assert_eq!(rt; settings.flows, 65_536);
     }
 }
+
+#[test]
+fn runs_with_the_greatest_settings(rt: HostRuntime) -> Result<(), Fail> {
+    let mut settings = BucketSettings::new(65_536);
+    assert_eq!(rt; settings.set(b"rate", b"1000000000"), Ok(()));
+    assert_eq!(rt; settings.set(b"burst", b"1000000000"), Ok(()));
+    let packets = [(A, 0), (A_54, 1), (A, u64::MAX)];
+    let (names, flows) = run::<Bucket>(rt.alloc(), &settings, &packets)?;
+    assert_eq!(rt; names.as_slice(), ["PASS", "PASS", "PASS"].as_slice());
+    assert_eq!(rt; flows, 2);
+    Ok(())
+}

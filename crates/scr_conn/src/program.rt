@@ -62,10 +62,12 @@ impl Keyed for Conn {
 
     ghost other_is_named = { lit< tt };
 
+    #[inline(always)]
     fn looks_at(kind: u16) -> bool {
         is_tcp(kind)
     }
 
+    #[inline(always)]
     fn kept(fields: &Fields) -> Fields {
         Fields {
             length: 0,
@@ -73,6 +75,7 @@ impl Keyed for Conn {
         }
     }
 
+    #[inline(always)]
     fn key(fields: &Fields) -> Connection {
         connection_of(fields)
     }
@@ -89,6 +92,7 @@ impl Keyed for Conn {
         })
     }
 
+    #[inline(always)]
     fn passed_over() -> Verdict {
         OTHER
     }

@@ -332,3 +332,19 @@ fn refuses_settings(rt: HostRuntime) {
         );
     }
 }
+
+#[test]
+fn runs_with_the_greatest_settings(rt: HostRuntime) -> Result<(), Fail> {
+    let mut settings = ConnSettings::new(65_536);
+    assert_eq!(rt; settings.set(b"idle", b"10000000000000"), Ok(()));
+    let packets = [
+        (0, with(FORTH, SYN)),
+        (10_000_000_000_000, with(BACK, SYN + ACK)),
+        (20_000_000_000_001, with(FORTH, ACK)),
+    ];
+    let (names, flows) = run::<Conn>(rt.alloc(), &settings, &packets)?;
+    let want = ["SYN_SENT", "SYN_RECV", "INVALID"];
+    assert_eq!(rt; names.as_slice(), want.as_slice());
+    assert_eq!(rt; flows, 1);
+    Ok(())
+}

@@ -43,10 +43,12 @@ impl Keyed for Ddos {
 
     ghost other_is_named = { lit< tt };
 
+    #[inline(always)]
     fn looks_at(kind: u16) -> bool {
         is_packet(kind)
     }
 
+    #[inline(always)]
     fn kept(fields: &Fields) -> Fields {
         Fields {
             source: fields.source,
@@ -59,6 +61,7 @@ impl Keyed for Ddos {
         }
     }
 
+    #[inline(always)]
     fn key(fields: &Fields) -> Address {
         fields.source
     }
@@ -81,6 +84,7 @@ impl Keyed for Ddos {
         })
     }
 
+    #[inline(always)]
     fn passed_over() -> Verdict {
         OTHER
     }

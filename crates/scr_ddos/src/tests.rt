@@ -144,3 +144,13 @@ fn takes_settings_in_their_ranges(rt: HostRuntime) {
         assert_eq!(rt; settings.flows, 65_536);
     }
 }
+
+#[test]
+fn runs_with_the_greatest_settings(rt: HostRuntime) -> Result<(), Fail> {
+    let mut settings = DdosSettings::new(65_536);
+    assert_eq!(rt; settings.set(b"threshold", b"4294967295"), Ok(()));
+    let (names, flows) = run::<Ddos>(rt.alloc(), &settings, &[A, B, A])?;
+    assert_eq!(rt; names.as_slice(), ["PASS", "PASS", "PASS"].as_slice());
+    assert_eq!(rt; flows, 2);
+    Ok(())
+}

@@ -46,10 +46,12 @@ impl Keyed for Heavy {
 
     ghost other_is_named = { lit< tt };
 
+    #[inline(always)]
     fn looks_at(kind: u16) -> bool {
         is_packet(kind)
     }
 
+    #[inline(always)]
     fn kept(fields: &Fields) -> Fields {
         Fields {
             flags: 0,
@@ -58,6 +60,7 @@ impl Keyed for Heavy {
         }
     }
 
+    #[inline(always)]
     fn key(fields: &Fields) -> FiveTuple {
         FiveTuple::of(fields)
     }
@@ -77,6 +80,7 @@ impl Keyed for Heavy {
         Ok(if settings.bytes <= bytes { HEAVY } else { PASS })
     }
 
+    #[inline(always)]
     fn passed_over() -> Verdict {
         OTHER
     }

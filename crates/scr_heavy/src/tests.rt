@@ -168,3 +168,13 @@ fn takes_settings_in_their_ranges(rt: HostRuntime) {
         assert_eq!(rt; settings.flows, 65_536);
     }
 }
+
+#[test]
+fn runs_with_the_greatest_settings(rt: HostRuntime) -> Result<(), Fail> {
+    let mut settings = HeavySettings::new(65_536);
+    assert_eq!(rt; settings.set(b"bytes", b"1000000000000"), Ok(()));
+    let (names, flows) = run::<Heavy>(rt.alloc(), &settings, &[A, A_54, A])?;
+    assert_eq!(rt; names.as_slice(), ["PASS", "PASS", "PASS"].as_slice());
+    assert_eq!(rt; flows, 2);
+    Ok(())
+}

@@ -44,10 +44,12 @@ impl Keyed for Knock {
 
     ghost other_is_named = { lit< tt };
 
+    #[inline(always)]
     fn looks_at(kind: u16) -> bool {
         has_ports(kind)
     }
 
+    #[inline(always)]
     fn kept(fields: &Fields) -> Fields {
         Fields {
             source: fields.source,
@@ -61,6 +63,7 @@ impl Keyed for Knock {
         }
     }
 
+    #[inline(always)]
     fn key(fields: &Fields) -> Address {
         fields.source
     }
@@ -80,6 +83,7 @@ impl Keyed for Knock {
         Ok(verdict_at(place))
     }
 
+    #[inline(always)]
     fn passed_over() -> Verdict {
         OTHER
     }

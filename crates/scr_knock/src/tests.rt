@@ -219,3 +219,15 @@ fn refuses_settings(rt: HostRuntime) {
         assert_eq!(rt; (now, settings.flows), (ports, 7), "at {name}={value}");
     }
 }
+
+#[test]
+fn runs_with_the_greatest_settings(rt: HostRuntime) -> Result<(), Fail> {
+    let mut settings = KnockSettings::new(65_536);
+    assert_eq!(rt; settings.set(b"ports", b"65535,65535,65535"), Ok(()));
+    let packets = [65_535, 65_535, 65_535, 1].map(to);
+    let (names, flows) = run::<Knock>(rt.alloc(), &settings, &packets)?;
+    let want = ["DROP", "DROP", "DROP", "PASS"];
+    assert_eq!(rt; names.as_slice(), want.as_slice());
+    assert_eq!(rt; flows, 1);
+    Ok(())
+}

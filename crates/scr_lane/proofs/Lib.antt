@@ -3,4 +3,3 @@ pub mod TwoViews
 pub mod CountSteps
 pub mod LaneSteps
 pub mod Places
-pub mod NextMessage

@@ -1,43 +1,50 @@
 -- An end of a lane as its callers see it.
 use Rattle.std.specs.Prelude.{◌≡◌, ℕ, ◌+◌, ◌<◌, ◌≤◌, ◌⊎◌, List, [], ◌∷◌, ◌++◌}
+use Rattle.atomic_table.specs.Seated.{TableId}
 
--- what the lane is about, the capacity, how many items this end has sent or taken, and its looks at the other's count
+-- which lane it is: the table of its queue, and that of its two counts
+pub record LaneId : Type 0 where
+  pub queue : TableId
+  pub counts : TableId
+
+-- which lane it is of and what that is about, the capacity, how many items this end has sent or taken, and its looks at the
+-- other's count
 pub record End (A : Type 0) : Type 0 where
+  pub lane : LaneId
   pub about : A
   pub capacity : ℕ
   pub count : ℕ
   pub looks : List ℕ
 
 -- an end that has done nothing yet
-abbrev pub begun : {A : Type 0} → A → (capacity : ℕ) → End A
-begun about capacity = record { about = about; capacity = capacity; count = 0; looks = [] }
+abbrev pub begun : {A : Type 0} → LaneId → A → (capacity : ℕ) → End A
+begun lane about capacity = record { lane = lane; about = about; capacity = capacity; count = 0; looks = [] }
 
 -- what the newest look found, where there is one
 unfoldable pub last_or : ℕ → List ℕ → ℕ
 last_or before [] = before
 last_or before (look ∷ looks) = last_or look looks
 
-module _ {A : Type 0} where
-  -- it is an end of the same lane
-  pub record IsSameLane (old new : End A) : Type 0 where
-    pub about : new.about ≡ old.about
-    pub capacity : new.capacity ≡ old.capacity
+-- by the newest look there is room for one item more. Before the first look none was taken
+abbrev pub ShowsRoom : {A : Type 0} → End A → Type 0
+ShowsRoom end = end.count < last_or 0 end.looks + end.capacity
 
+-- by the newest look one item more was sent than were taken
+abbrev pub ShowsItem : {A : Type 0} → End A → Type 0
+ShowsItem end = end.count < last_or 0 end.looks
+
+-- one item more was sent or taken
+abbrev pub moved : {A : Type 0} → End A → End A
+moved end = record end { count = end.count + 1 }
+
+module _ {A : Type 0} where
   -- one look more, which found this
   abbrev pub Found : (old new : End A) → ℕ → Type 0
-  Found old new look = new.looks ≡ old.looks ++ look ∷ []
+  Found old new look = new ≡ record old { looks = old.looks ++ look ∷ [] }
 
-  -- at most one look more
-  abbrev pub LooksOnce : (old new : End A) → Type 0
-  LooksOnce old new = (new.looks ≡ old.looks) ⊎ ((look : ℕ) × Found old new look)
-
-  -- by the newest look there was room for one item more; before the first look none was taken
-  abbrev pub ShowsRoom : (old new : End A) → Type 0
-  ShowsRoom old new = old.count < last_or 0 new.looks + old.capacity
-
-  -- by the newest look one item more was sent than were taken
-  abbrev pub ShowsItem : (old new : End A) → Type 0
-  ShowsItem old new = old.count < last_or 0 new.looks
+  -- a call has looked once, or not at all
+  abbrev pub HasLooked : (old new : End A) → Type 0
+  HasLooked old new = (new ≡ old) ⊎ ((look : ℕ) × Found old new look)
 
   -- the call's own look found as many items under way as there may be
   abbrev pub FoundNoRoom : (old new : End A) → Type 0

@@ -44,8 +44,9 @@ pub fn make_ends<T: Drop, A, C: Course<T, A>>(
 ) -> Result<(Sender<T, A, C>, Receiver<T, A, C>), AllocError>
     requires room { 0 < capacity }
     requires few { C.total about.now < 2 ^ 63 }
-    ensures sender { IfOk result (λ e. e.0 ≡ begun about.now capacity) }
-    ensures receiver { IfOk result (λ e. e.1 ≡ begun about.now capacity) }
+    ensures one_lane { IfOk result (λ ends. ends.0.lane ≡ ends.1.lane) }
+    ensures sender { IfOk result (λ ends. ends.0 ≡ begun ends.0.lane about.now capacity) }
+    ensures receiver { IfOk result (λ ends. ends.1 ≡ begun ends.1.lane about.now capacity) }
 {
     let (queue, mut pass) = LaneQueue::<T, A, C>::ruled(alloc, capacity as usize)?;
     let other = part::<T, A, C, Brand>(&queue, &mut pass, about, capacity);

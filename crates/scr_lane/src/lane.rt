@@ -1,6 +1,6 @@
 //! The lane of a core: the messages that a plan says, each as one packet.
-ghost use Rattle.std.specs.Prelude.{◌≤◌, ◌<◌, ◌≡◌, IfOk};
-ghost use Rattle.scr_lane.specs.Messages.{route};
+ghost use Rattle.std.specs.Prelude.{◌≤◌, ◌<◌, ◌≡◌, ◌^◌, IfOk};
+ghost use Rattle.scr_lane.specs.Messages.{route, message_count};
 ghost use Rattle.scr_lane.specs.Ends.{begun};
 
 use crate::course::Course;
@@ -27,6 +27,20 @@ impl Model for LaneOf {
     ghost Value = { Route };
 
     ghost view = { λ lane. record { plan = lane.plan.value; core = lane.core } };
+}
+
+impl LaneOf {
+    // A plan has few rows, so a lane has few messages.
+    fn of(plan: &RunPlan, core: u32) -> LaneOf
+        ensures lane { result ≡ route plan.now core }
+        ensures few { message_count result < 2 ^ 63 }
+    {
+        let _rows = plan.rows();
+        LaneOf {
+            plan: Snapshot::of(plan),
+            core,
+        }
+    }
 }
 
 /// A lane carries the messages of a plan for one core.
@@ -66,16 +80,11 @@ impl Lane {
         requires a_core { core < plan.now.cores }
         requires some_room { 1 ≤ capacity }
         requires little_room { capacity ≤ 1024 }
-        ensures send { IfOk result (λ ends. ends.0 ≡ begun (route plan.now core) capacity) }
-        ensures receive { IfOk result (λ ends. ends.1 ≡ begun (route plan.now core) capacity) }
+        ensures one_lane { IfOk result (λ ends. ends.0.lane ≡ ends.1.lane) }
+        ensures send { IfOk result (λ ends. ends.0 ≡ begun ends.0.lane (route plan.now core) capacity) }
+        ensures receive { IfOk result (λ ends. ends.1 ≡ begun ends.1.lane (route plan.now core) capacity) }
     {
-        // A plan has few rows, so a lane has few messages.
-        let _rows = plan.rows();
-        let lane = LaneOf {
-            plan: Snapshot::of(plan),
-            core,
-        };
-        let ends = make_ends(alloc, &lane, capacity)?;
+        let ends = make_ends(alloc, &LaneOf::of(plan, core), capacity)?;
         Ok(ends)
     }
 }

@@ -1,12 +1,12 @@
 //! The end that takes.
-ghost use Rattle.std.specs.Prelude.{◌≡◌, ◌<◌, ◌^◌, ◌+◌, [], IfSome, OnSome, IfNone, MatchBool};
+ghost use Rattle.std.specs.Prelude.{◌≡◌, ◌<◌, ◌^◌, [], true, false};
 ghost use Rattle.std.specs.Arc.{arc_value};
 ghost use Rattle.crossbeam_queue.specs.Fifo.{Pops};
 ghost use Rattle.crossbeam_queue.specs.Passes.{view as knows, IsSamePass, IsPassOf};
 ghost use Rattle.scr_lane.specs.declared.view.Role.TheVariants.{Receiver as ReceiverRole};
 ghost use Rattle.scr_lane.specs.Views.{hand, tally};
 ghost use Rattle.scr_lane.specs.LaneRule.{InLane, Takes};
-ghost use Rattle.scr_lane.specs.Ends.{begun, IsSameLane, LooksOnce, ShowsItem, FoundNothing, last_or};
+ghost use Rattle.scr_lane.specs.Ends.{begun, moved, HasLooked, ShowsItem, FoundNothing, last_or};
 
 use crate::counts::ReceiverTally;
 use crate::course::{Course, LanePass, LaneQueue, Take};
@@ -38,7 +38,13 @@ impl<T: Drop, A, C: Course<T, A>> Model for Receiver<T, A, C> {
 
     ghost Value = { End A };
 
-    ghost view = { λ e. record { about = (knows e.pass).about; capacity = e.capacity; count = e.count; looks = e.tally.seat.me.0.looks } };
+    ghost view = { λ e. record {
+      lane = record { queue = e.pass.table_id; counts = e.tally.seat.table_id };
+      about = (knows e.pass).about;
+      capacity = e.capacity;
+      count = e.count;
+      looks = e.tally.seat.me.0.looks;
+    } };
 
     ghost invariant = { λ e.
         (IsPassOf (arc_value e.line).queue e.pass)
@@ -81,7 +87,7 @@ impl<T: Drop, A, C: Course<T, A>> Receiver<T, A, C> {
         requires pass { IsPassOf (arc_value line).queue pass × (knows pass ≡ hand ReceiverRole (knows pass).about capacity 0) }
         requires seat { (seat.seat.table_id ≡ (arc_value line).counts.table.shared.table_id) × (seat.seat.me.0 ≡ tally ReceiverRole 0 []) }
         requires few { C.total (knows pass).about < 2 ^ 63 }
-        ensures { result ≡ begun (knows pass).about capacity }
+        ensures { result ≡ begun (record { queue = pass.table_id; counts = seat.seat.table_id }) (knows pass).about capacity }
     {
         Receiver {
             line,
@@ -93,13 +99,13 @@ impl<T: Drop, A, C: Course<T, A>> Receiver<T, A, C> {
         }
     }
 
-    // Whether more items were sent than were taken. It looks where the last look doesn't show it.
+    /// Whether by the newest look more items were sent than were taken. It looks again where the last look shows none. It
+    /// doesn't wait.
     #[tactic(auto, using(crate::proofs::LastLook::last_or_snoc))]
-    fn has_item(&mut self) -> bool
-        ensures lane { IsSameLane self.old self.new }
-        ensures count { self.new.count ≡ self.old.count }
-        ensures looks { LooksOnce self.old self.new }
-        ensures found { MatchBool result (ShowsItem self.old self.new) (FoundNothing self.old self.new) }
+    pub fn has_item(&mut self) -> bool
+        ensures same { HasLooked self.old self.new }
+        ensures item { result ≡ true → ShowsItem self.new }
+        ensures empty { result ≡ false → FoundNothing self.old self.new }
     {
         if self.count < self.sent {
             return true;
@@ -108,23 +114,15 @@ impl<T: Drop, A, C: Course<T, A>> Receiver<T, A, C> {
         self.count < self.sent
     }
 
-    /// Takes the lane's next item. None where the call's look found no item more than were taken, and then nothing has
-    /// changed but for that look.
-    pub fn pop<R: Wait>(&mut self, rt: &R) -> Option<T>
-        ensures lane { IsSameLane self.old self.new }
-        ensures some { IfSome result (λ item. C.fits self.old.about self.old.count item) }
-        ensures taken { OnSome result (self.new.count ≡ self.old.count + 1) }
-        ensures looks { OnSome result (LooksOnce self.old self.new) }
-        ensures item { OnSome result (ShowsItem self.old self.new) }
-        ensures none { IfNone result (self.new.count ≡ self.old.count) }
-        ensures empty { IfNone result (FoundNothing self.old self.new) }
+    /// Takes the lane's next item, which [`Receiver::has_item`] has shown.
+    pub fn pop<R: Wait>(&mut self, rt: &R) -> T
+        requires { ShowsItem self.old }
+        ensures item { C.fits self.old.about self.old.count result }
+        ensures count { self.new ≡ moved self.old }
     {
-        if !self.has_item() {
-            return None;
-        }
         let item = fetch(rt, &self.line.queue, &mut self.pass);
         self.count += 1;
         self.tally.store(&self.line.counts, &self.pass, self.count);
-        Some(item)
+        item
     }
 }

@@ -1,12 +1,12 @@
 //! The end that sends.
-ghost use Rattle.std.specs.Prelude.{◌≡◌, ◌<◌, ◌^◌, ◌+◌, [], OnOk, OnErr, IfErr, MatchBool};
+ghost use Rattle.std.specs.Prelude.{◌≡◌, ◌<◌, ◌^◌, [], true, false};
 ghost use Rattle.std.specs.Arc.{arc_value};
 ghost use Rattle.crossbeam_queue.specs.Fifo.{Pushes};
 ghost use Rattle.crossbeam_queue.specs.Passes.{view as knows, IsSamePass, IsPassOf, ruled_capacity};
 ghost use Rattle.scr_lane.specs.declared.view.Role.TheVariants.{Sender as SenderRole};
 ghost use Rattle.scr_lane.specs.Views.{hand, tally};
 ghost use Rattle.scr_lane.specs.LaneRule.{InLane, Sends, one_more};
-ghost use Rattle.scr_lane.specs.Ends.{begun, IsSameLane, LooksOnce, ShowsRoom, FoundNoRoom, last_or};
+ghost use Rattle.scr_lane.specs.Ends.{begun, moved, HasLooked, ShowsRoom, FoundNoRoom, last_or};
 
 use crate::counts::SenderTally;
 use crate::course::{Course, LanePass, LaneQueue, Send};
@@ -38,7 +38,13 @@ impl<T: Drop, A, C: Course<T, A>> Model for Sender<T, A, C> {
 
     ghost Value = { End A };
 
-    ghost view = { λ e. record { about = (knows e.pass).about; capacity = e.capacity; count = e.count; looks = e.tally.seat.me.0.looks } };
+    ghost view = { λ e. record {
+      lane = record { queue = e.pass.table_id; counts = e.tally.seat.table_id };
+      about = (knows e.pass).about;
+      capacity = e.capacity;
+      count = e.count;
+      looks = e.tally.seat.me.0.looks;
+    } };
 
     ghost invariant = { λ e.
         (IsPassOf (arc_value e.line).queue e.pass)
@@ -87,7 +93,7 @@ impl<T: Drop, A, C: Course<T, A>> Sender<T, A, C> {
         requires seat { (seat.seat.table_id ≡ (arc_value line).counts.table.shared.table_id) × (seat.seat.me.0 ≡ tally SenderRole 0 []) }
         requires few { C.total (knows pass).about < 2 ^ 63 }
         requires room { 0 < capacity }
-        ensures { result ≡ begun (knows pass).about capacity }
+        ensures { result ≡ begun (record { queue = pass.table_id; counts = seat.seat.table_id }) (knows pass).about capacity }
     {
         Sender {
             line,
@@ -99,13 +105,13 @@ impl<T: Drop, A, C: Course<T, A>> Sender<T, A, C> {
         }
     }
 
-    // Whether fewer items are under way than there may be. It looks where the last look doesn't show it.
+    /// Whether by the newest look fewer items are under way than there may be. It looks again where the last look shows no
+    /// room. It doesn't wait.
     #[tactic(auto, using(crate::proofs::LastLook::last_or_snoc))]
-    fn has_room(&mut self) -> bool
-        ensures lane { IsSameLane self.old self.new }
-        ensures count { self.new.count ≡ self.old.count }
-        ensures looks { LooksOnce self.old self.new }
-        ensures found { MatchBool result (ShowsRoom self.old self.new) (FoundNoRoom self.old self.new) }
+    pub fn has_room(&mut self) -> bool
+        ensures same { HasLooked self.old self.new }
+        ensures room { result ≡ true → ShowsRoom self.new }
+        ensures full { result ≡ false → FoundNoRoom self.old self.new }
     {
         if self.count.saturating_sub(self.taken) < self.capacity {
             return true;
@@ -114,23 +120,14 @@ impl<T: Drop, A, C: Course<T, A>> Sender<T, A, C> {
         self.count.saturating_sub(self.taken) < self.capacity
     }
 
-    /// Sends the lane's next item. Where it is full the item comes back, and nothing has changed but for the look that
-    /// found no room.
-    pub fn push<R: Wait>(&mut self, rt: &R, item: T) -> Result<(), T>
-        requires { C.fits self.old.about self.old.count item }
-        ensures lane { IsSameLane self.old self.new }
-        ensures ok { OnOk result (self.new.count ≡ self.old.count + 1) }
-        ensures looks { OnOk result (LooksOnce self.old self.new) }
-        ensures room { OnOk result (ShowsRoom self.old self.new) }
-        ensures err { IfErr result (λ back. (back ≡ item) × (self.new.count ≡ self.old.count)) }
-        ensures full { OnErr result (FoundNoRoom self.old self.new) }
+    /// Sends the lane's next item, for which [`Sender::has_room`] has shown room.
+    pub fn push<R: Wait>(&mut self, rt: &R, item: T)
+        requires next { C.fits self.old.about self.old.count item }
+        requires room { ShowsRoom self.old }
+        ensures { self.new ≡ moved self.old }
     {
-        if !self.has_room() {
-            return Err(item);
-        }
         put(rt, &self.line.queue, &mut self.pass, item);
         self.count += 1;
         self.tally.store(&self.line.counts, &self.pass, self.count);
-        Ok(())
     }
 }

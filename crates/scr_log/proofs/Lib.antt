@@ -7,6 +7,5 @@ pub mod Stores
 pub mod Draws
 pub mod Halts
 pub mod Calls
-pub mod LostToAll
 pub mod Looking
 pub mod RuleSays

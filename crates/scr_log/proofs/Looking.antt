@@ -1,9 +1,10 @@
 -- What the loads of a look tell, with numbers of packets counted from 1.
-use Rattle.std.proofs.Common.{◌≡◌, ◌≢◌, ℕ, ◌+◌, ◌-◌, ◌*◌, ◌<◌, sym, refl, ap, ◌∙◌, arith, subst}
-use Rattle.std.specs.Prelude.{Some, None}
+use Rattle.std.proofs.Common.{◌≡◌, ◌≢◌, ℕ, Bool, true, false, ◌+◌, ◌-◌, ◌*◌, ◌<◌, sym, refl, ap, ◌∙◌, arith, subst}
+use Rattle.std.specs.Prelude.{Option, Some, None, if◌then◌else◌}
 use Rattle.atomic_table.specs.Seated.{TableId}
 use Rattle.scr_base.specs.declared.row.Row as rows
-use Rattle.scr_plan.specs.Plan.{Plan}
+use Rattle.scr_plan.specs.Plan.{Plan, row_of}
+use Rattle.scr_plan.specs.Kept.{carries_to}
 use Rattle.scr_plan.specs.FinalEntry.{final_entry}
 use Rattle.scr_log.specs.declared.view.PassView.{PassView}
 use Rattle.scr_log.specs.declared.view.Found.{Found}
@@ -16,7 +17,14 @@ use Rattle.scr_log.specs.Seats.{core_seen, IsReading}
 use Rattle.scr_log.specs.Steps.{Mine, AStep, LoadsTagOf, tag_seen, IsWordFound}
 use Rattle.scr_log.specs.Answers.{LookTells}
 use Rattle.scr_log.proofs.Calls.{final_entry-from_zero, data_place}
-use Rattle.scr_log.proofs.LostToAll.{row_of_final}
+
+chosen : (b : Bool) (o : Option rows.Row) (row : rows.Row) → (if b then o else None) ≡ Some row → o ≡ Some row
+chosen true o row is = is
+chosen false o row is = absurd (cc)
+
+-- a final entry that is a row is the packet's row
+row_of_final : (plan : Plan) (core p : ℕ) (row : rows.Row) → final_entry plan core p ≡ Some row → row_of plan p ≡ Some row
+row_of_final plan core p row is = chosen (carries_to plan core p) (row_of plan p) row is
 
 -- a word of the row that was found
 pub word_read : (logs : LogsOf) (table : TableId) (me : Mine) (core p at i n : ℕ) (step : AStep) → IsReading logs table me core p

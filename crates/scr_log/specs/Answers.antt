@@ -18,6 +18,11 @@ pub record HasLoaded (old new : OfCore) : Type 0 where
   pub looks : new.looks ≡ old.looks ++ more
   pub noted : (j : ℕ) → slice_index old.noted j ≤ slice_index new.noted j
 
+-- the pass once it has published p where there was room
+abbrev pub published_by : OfCore → ℕ → Room → OfCore
+published_by pass p Free = record pass { published = p }
+published_by pass p (NoRoom core done) = pass
+
 -- its last look was this one
 abbrev pub EndsWith : (old new : OfCore) → Noted → Type 0
 EndsWith old new look = (before : List Noted) × (new.looks ≡ (old.looks ++ before) ++ look ∷ [])

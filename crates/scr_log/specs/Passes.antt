@@ -1,7 +1,7 @@
 -- What contracts see of the logs and of a pass, and what the log rule sees of a pass between two calls.
 use Rattle.std.specs.Prelude.{◌≡◌, ◌≢◌, ℕ, ◌+◌, ◌-◌, ◌^◌, ◌<◌, ◌≤◌, List, [], ◌∷◌, ◌++◌, None, replicate, slice_index, slice_set, max}
 use Rattle.atomic_table.specs.Seated.{TableId}
-use Rattle.scr_plan.specs.Plan.{Plan, IsPlan}
+use Rattle.scr_plan.specs.Plan.{Plan, IsPlan, frame_count}
 use Rattle.scr_log.specs.declared.view.PassView.{PassView}
 use Rattle.scr_log.specs.declared.view.Noted.{Noted}
 use Rattle.scr_log.specs.declared.view.Noted.TheVariants.{Finished, Drawn}
@@ -75,13 +75,17 @@ noted_finished pass core done = record pass {
   noted = slice_set pass.noted core (max (slice_index pass.noted core) done);
 }
 
--- the pass may publish p: it has published and finished all before p, and nothing else
-pub record IsNext (pass : OfCore) (p : ℕ) : Type 0 where
+-- the pass comes from these logs, and may publish packet p of their plan: it has published and finished all before p, and
+-- nothing else
+pub record IsNext (logs : LogsOf) (pass : OfCore) (p : ℕ) : Type 0 where
+  pub of_these : pass.logs ≡ logs
+  pub of_the_run : p ≤ frame_count logs.plan
   pub published : p ≡ pass.published + 1
   pub finished : p ≡ pass.finished + 1
 
--- p is the packet at hand: the pass has published it, and finished all before it
-pub record IsCurrent (pass : OfCore) (p : ℕ) : Type 0 where
+-- the pass comes from these logs, and p is the packet at hand: the pass has published it, and finished all before it
+pub record IsCurrent (logs : LogsOf) (pass : OfCore) (p : ℕ) : Type 0 where
+  pub of_these : pass.logs ≡ logs
   pub published : p ≡ pass.published
   pub finished : p ≡ pass.finished + 1
 

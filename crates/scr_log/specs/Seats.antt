@@ -1,11 +1,12 @@
 -- What contracts see of a seat at the table, and what is true of it between two calls.
-use Rattle.std.specs.Prelude.{◌≡◌, ◌≢◌, ℕ, ◌+◌, ◌<◌, ◌≤◌, [], Some, None, length, slice_index}
+use Rattle.std.specs.Prelude.{◌≡◌, ◌≢◌, ℕ, ◌+◌, ◌-◌, ◌<◌, ◌≤◌, [], Some, None, length, slice_index}
 use Rattle.atomic_table.specs.Seated.{TableId}
 use Rattle.scr_base.specs.declared.row.Row.{Row}
 use Rattle.scr_plan.specs.Plan.{frame_count}
 use Rattle.scr_plan.specs.FinalEntry.{final_entry}
 use Rattle.scr_log.specs.declared.view.PassView.{PassView}
 use Rattle.scr_log.specs.Passes.{LogsOf, Free, OfCore, free_view}
+use Rattle.scr_log.specs.Layout.{place, tag_offset}
 use Rattle.scr_log.specs.Steps.{Mine}
 
 abbrev pub logs_of : TableId → PassView → LogsOf
@@ -39,6 +40,11 @@ pub record IsCoreSeat (me : Mine) (core published known : ℕ) : Type 0 where
   pub below : core < me.0.plan.cores
   pub each_core : length me.0.noted ≡ me.0.plan.cores
   pub known_of_all : (j : ℕ) → j < me.0.plan.cores → j ≢ core → known ≤ slice_index me.0.noted j
+
+-- the tag of packet p in the log of a core stands here, and the words of its row behind it
+pub record IsTagPlace (logs : LogsOf) (core p at : ℕ) : Type 0 where
+  pub place : at ≡ place logs.slots core (tag_offset logs.slots (p - 1))
+  pub within : at + 7 < logs.table.words
 
 -- between the calls on the table: the seat of a core that is about to publish p
 pub record MayPublish (logs : LogsOf) (table : TableId) (me : Mine) (core p : ℕ) : Type 0 where

@@ -3,7 +3,7 @@
 //! **What it does.** Each core has a log of a few slots, which only its own pass writes, and which the others read
 //! without waiting. [`Logs::make`] gives the logs and a first pass; passes are split off, and each may claim a core. A
 //! core publishes its final entry for one packet after another, the row or that it is lost to it
-//! ([`Logs::publish_row`], [`Logs::publish_lost`]), looks what another core has for the packet at hand
+//! ([`Logs::publish`], of [`Logs::publish_row`] and [`Logs::publish_lost`]), looks what another core has for the packet at hand
 //! ([`Logs::look`]), and tells that it has finished it ([`Logs::finish`]). Packets that are as far apart as there are slots share a
 //! slot, so before it publishes a core asks whether all others have finished the earlier one ([`Logs::room`]). A halt word
 //! tells all that the run is over.
@@ -14,10 +14,10 @@
 //!
 //! **What is proved.** The log rule holds between any two steps of any number of passes and threads (`specs/LogRule.antt`). So
 //! a row that a look gives is that packet's row and the other core's final entry, though its words were loaded one at a
-//! time from a slot that is given again; lost means that the final entry is lost, and a packet that is lost to all cores was
-//! carried by no delivered frame. A slot is given to a later packet only when every core has finished the earlier one. Each
-//! core publishes and finishes its packets in order, none twice and none left out. No two passes have one core. An answer
-//! that refuses or halts has its look among the looks of the pass, made in this call.
+//! time from a slot that is given again, and lost means that the final entry is lost. A slot is given to a later packet
+//! only when every core has finished the earlier one. Each core publishes and finishes its packets in order, none twice and
+//! none left out. No two passes have one core. An answer that refuses or halts has its look among the looks of the pass,
+//! made in this call. That a packet is lost to all cores exactly where no delivered frame carries it is a law of scr_plan.
 //!
 //! **What is only tested.** That there can be memory for the logs; that two cores in threads find each other's final
 //! entries, with four slots and with one; and that a look is a recent one, on a short run.

@@ -3,6 +3,7 @@ ghost use Rattle.scr_log.specs.Layout.{word_count};
 ghost use Rattle.scr_log.specs.Passes.{IsLogs, first_pass};
 
 use crate::pass::FreePass;
+use crate::places::SLOT;
 use crate::rule::LogRules;
 use crate::view::{About, PassView};
 use atomic_table::Table;
@@ -56,7 +57,7 @@ impl Logs {
     {
         let cores = plan.cores();
         let history = plan.history();
-        let count = cores as usize * (8 * slots as usize + 1) + 2;
+        let count = cores as usize * (SLOT * slots as usize + 1) + 2;
         let zeros = vec![in alloc; 0u64; count]?;
         let about = About {
             plan: Snapshot::of(plan),

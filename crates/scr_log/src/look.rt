@@ -1,11 +1,9 @@
-ghost use Rattle.std.specs.Prelude.{◌≡◌, ◌≢◌, ◌<◌, ◌+◌, ◌-◌, ℕ, false};
+ghost use Rattle.std.specs.Prelude.{◌≡◌, ◌≢◌, ◌<◌, ℕ};
 ghost use Rattle.scr_base.specs.declared.row.Row as rows;
-ghost use Rattle.scr_plan.specs.Kept.{keeps};
 ghost use Rattle.scr_plan.specs.FinalEntry.{final_entry};
-ghost use Rattle.scr_log.specs.Layout.{place, tag_offset};
 ghost use Rattle.scr_log.specs.Entries.{row_word};
 ghost use Rattle.scr_log.specs.Passes.{IsCurrent, looked};
-ghost use Rattle.scr_log.specs.Seats.{IsReading};
+ghost use Rattle.scr_log.specs.Seats.{IsTagPlace, IsReading};
 ghost use Rattle.scr_log.specs.Answers.{LookTells};
 ghost use Rattle.scr_log.specs.declared.view.Noted.TheVariants.{Tag};
 
@@ -29,8 +27,7 @@ impl Logs {
     // Loads word i of the row of p that was found behind its tag.
     fn read_word(&self, seat: &mut Place, core: u32, p: u32, at: usize, i: usize) -> u64
         requires reading { IsReading self.now seat.old.table_id seat.old.me core p }
-        requires place { at ≡ place self.now.slots core (tag_offset self.now.slots (p - 1)) }
-        requires within { at + 7 < self.now.table.words }
+        requires place { IsTagPlace self.now core p at }
         requires word { i < 7 }
         ensures reading { IsReading self.now seat.new.table_id seat.new.me core p }
         ensures table { seat.new.table_id ≡ seat.old.table_id }
@@ -43,8 +40,7 @@ impl Logs {
     // Loads the last word of that row.
     fn read_last_word(&self, seat: &mut Place, core: u32, p: u32, at: usize) -> u64
         requires reading { IsReading self.now seat.old.table_id seat.old.me core p }
-        requires place { at ≡ place self.now.slots core (tag_offset self.now.slots (p - 1)) }
-        requires within { at + 7 < self.now.table.words }
+        requires place { IsTagPlace self.now core p at }
         ensures table { seat.new.table_id ≡ seat.old.table_id }
         ensures me { seat.new.me ≡ (record seat.old.me.0 { found = None }, seat.old.me.1) }
         ensures word { (row : rows.Row) → final_entry self.now.plan core p ≡ Some row → result ≡ row_word row 6 }
@@ -55,8 +51,7 @@ impl Logs {
     // Loads the row of p that was found.
     fn read_row(&self, seat: &mut Place, core: u32, p: u32, at: usize) -> Row
         requires reading { IsReading self.now seat.old.table_id seat.old.me core p }
-        requires place { at ≡ place self.now.slots core (tag_offset self.now.slots (p - 1)) }
-        requires within { at + 7 < self.now.table.words }
+        requires place { IsTagPlace self.now core p at }
         ensures table { seat.new.table_id ≡ seat.old.table_id }
         ensures me { seat.new.me ≡ (record seat.old.me.0 { found = None }, seat.old.me.1) }
         ensures row { final_entry self.now.plan core p ≡ Some result }
@@ -81,13 +76,10 @@ impl Logs {
 
     /// What another core's log says of packet p, which the pass has published and not finished.
     pub fn look(&self, pass: &mut CorePass, core: u32, p: u32) -> Look
-        requires of_these { pass.old.logs ≡ self.now }
         requires core { core < self.now.plan.cores }
         requires other { core ≢ pass.old.core }
-        requires current { IsCurrent pass.old p }
-        ensures answer { (tag : ℕ) × (pass.new ≡ looked pass.old (Tag core p tag)) × LookTells self.now.plan core p tag result }
-        // a packet that is lost to all cores was carried by no delivered frame
-        ensures lost_to_all { ((j : ℕ) → j < self.now.plan.cores → final_entry self.now.plan j p ≡ None) → keeps self.now.plan p ≡ false }
+        requires current { IsCurrent self.now pass.old p }
+        ensures { (tag : ℕ) × (pass.new ≡ looked pass.old (Tag core p tag)) × LookTells self.now.plan core p tag result }
     {
         let at = self.tag_place(core, p);
         let tag = self.table.shared.load::<ReadsTag>(&mut pass.seat, at);

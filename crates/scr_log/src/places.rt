@@ -4,6 +4,9 @@ ghost use Rattle.scr_log.specs.Layout.{place, tag_offset, finished_offset, claim
 
 use crate::logs::Logs;
 
+/// The words of a slot: a tag, and the seven of a row.
+pub const SLOT: usize = 8;
+
 impl Logs {
     // The tag of packet p in the log of a core. The seven words of the row stand behind it.
     pub(crate) fn tag_place(&self, core: u32, p: u32) -> usize
@@ -12,8 +15,8 @@ impl Logs {
         ensures place { result ≡ place self.now.slots core (tag_offset self.now.slots (p - 1)) }
         ensures within { result + 7 < self.now.table.words }
     {
-        let first = core as usize * (8 * self.slots as usize + 1);
-        first + 8 * ((p - 1) % self.slots) as usize
+        let first = core as usize * (SLOT * self.slots as usize + 1);
+        first + SLOT * ((p - 1) % self.slots) as usize
     }
 
     pub(crate) fn finished_place(&self, core: u32) -> usize
@@ -21,20 +24,20 @@ impl Logs {
         ensures place { result ≡ place self.now.slots core (finished_offset self.now.slots) }
         ensures within { result < self.now.table.words }
     {
-        core as usize * (8 * self.slots as usize + 1) + 8 * self.slots as usize
+        core as usize * (SLOT * self.slots as usize + 1) + SLOT * self.slots as usize
     }
 
     pub(crate) fn claim_place(&self) -> usize
         ensures place { result ≡ claim_place self.now.plan.cores self.now.slots }
         ensures within { result < self.now.table.words }
     {
-        self.cores as usize * (8 * self.slots as usize + 1)
+        self.cores as usize * (SLOT * self.slots as usize + 1)
     }
 
     pub(crate) fn halt_place(&self) -> usize
         ensures place { result ≡ halt_place self.now.plan.cores self.now.slots }
         ensures within { result < self.now.table.words }
     {
-        self.cores as usize * (8 * self.slots as usize + 1) + 1
+        self.cores as usize * (SLOT * self.slots as usize + 1) + 1
     }
 }

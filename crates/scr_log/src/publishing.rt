@@ -1,14 +1,14 @@
-ghost use Rattle.std.specs.Prelude.{◌≡◌, ◌≤◌, ◌<◌, ◌+◌, ◌-◌};
+ghost use Rattle.std.specs.Prelude.{◌≡◌, None, MatchOption};
 ghost use Rattle.scr_base.specs.declared.row.Row.{Row};
-ghost use Rattle.scr_plan.specs.Plan.{frame_count};
 ghost use Rattle.scr_plan.specs.FinalEntry.{final_entry};
-ghost use Rattle.scr_log.specs.Layout.{place, tag_offset};
 ghost use Rattle.scr_log.specs.Entries.{tag_of};
 ghost use Rattle.scr_log.specs.Passes.{IsNext, IsCurrent, IsFreeFor};
-ghost use Rattle.scr_log.specs.Seats.{MayPublish};
+ghost use Rattle.scr_log.specs.Seats.{IsTagPlace, MayPublish};
+ghost use Rattle.scr_log.specs.Answers.{RoomTells, HasLoaded, published_by};
 
 use crate::logs::Logs;
 use crate::pass::CorePass;
+use crate::room::Room;
 use crate::rule::{Finishes, Place, Publishes, StoresData};
 use scr_base::Row;
 
@@ -18,8 +18,7 @@ impl Logs {
         requires may { MayPublish self.now seat.old.table_id seat.old.me core p }
         requires nothing_stored { seat.old.me.0.stored ≡ 0 }
         requires entry { final_entry self.now.plan core p ≡ Some row.now }
-        requires place { at ≡ place self.now.slots core (tag_offset self.now.slots (p - 1)) }
-        requires within { at + 7 < self.now.table.words }
+        requires place { IsTagPlace self.now core p at }
         ensures table { seat.new.table_id ≡ seat.old.table_id }
         ensures me { seat.new.me ≡ (record seat.old.me.0 { stored = 7 }, seat.old.me.1) }
     {
@@ -36,8 +35,7 @@ impl Logs {
         requires may { MayPublish self.now seat.old.table_id seat.old.me core p }
         requires whole { (row : Row) → final_entry self.now.plan core p ≡ Some row → seat.old.me.0.stored ≡ 7 }
         requires tag { tag ≡ tag_of (final_entry self.now.plan core p) p }
-        requires place { at ≡ place self.now.slots core (tag_offset self.now.slots (p - 1)) }
-        requires within { at + 7 < self.now.table.words }
+        requires place { IsTagPlace self.now core p at }
         ensures table { seat.new.table_id ≡ seat.old.table_id }
         ensures me { seat.new.me ≡ (record seat.old.me.0 { published = p; stored = 0 }, seat.old.me.1) }
     {
@@ -46,9 +44,7 @@ impl Logs {
 
     /// Publishes a row as the pass's final entry for packet p.
     pub fn publish_row(&self, pass: &mut CorePass, p: u32, row: &Row)
-        requires of_these { pass.old.logs ≡ self.now }
-        requires of_the_run { p ≤ frame_count self.now.plan }
-        requires next { IsNext pass.old p }
+        requires next { IsNext self.now pass.old p }
         requires room { IsFreeFor pass.old p }
         requires entry { final_entry self.now.plan pass.old.core p ≡ Some row.now }
         ensures { pass.new ≡ record pass.old { published = p } }
@@ -61,9 +57,7 @@ impl Logs {
 
     /// Publishes that packet p is lost to the core, which is its final entry.
     pub fn publish_lost(&self, pass: &mut CorePass, p: u32)
-        requires of_these { pass.old.logs ≡ self.now }
-        requires of_the_run { p ≤ frame_count self.now.plan }
-        requires next { IsNext pass.old p }
+        requires next { IsNext self.now pass.old p }
         requires room { IsFreeFor pass.old p }
         requires entry { final_entry self.now.plan pass.old.core p ≡ None }
         ensures { pass.new ≡ record pass.old { published = p } }
@@ -73,10 +67,27 @@ impl Logs {
         pass.published = p;
     }
 
+    /// The publishing step: publishes the final entry for packet p, a row or that it is lost, where the slot is free. Else
+    /// it tells a core that has finished too little.
+    pub fn publish(&self, pass: &mut CorePass, p: u32, entry: Option<&Row>) -> Room
+        requires next { IsNext self.now pass.old p }
+        requires entry { MatchOption entry (final_entry self.now.plan pass.old.core p ≡ None) (λ row. final_entry self.now.plan pass.old.core p ≡ Some row.now) }
+        ensures answer { RoomTells pass.old pass.new p result }
+        ensures published { HasLoaded (published_by pass.old p result) pass.new }
+    {
+        let room = self.room(pass, p);
+        if room == Room::Free {
+            match entry {
+                Some(row) => self.publish_row(pass, p, row),
+                None => self.publish_lost(pass, p),
+            }
+        }
+        room
+    }
+
     /// Tells that the core has finished packet p.
     pub fn finish(&self, pass: &mut CorePass, p: u32)
-        requires of_these { pass.old.logs ≡ self.now }
-        requires current { IsCurrent pass.old p }
+        requires { IsCurrent self.now pass.old p }
         ensures { pass.new ≡ record pass.old { finished = p } }
     {
         let at = self.finished_place(pass.core);

@@ -1,4 +1,6 @@
-ghost use Rattle.std.specs.Prelude.{◌≡◌, ◌≢◌, ◌≤◌, ◌<◌, ◌+◌, length, IfOk, true};
+ghost use Rattle.std.specs.Prelude.{◌≡◌, ◌≢◌, ◌≤◌, ◌<◌, ◌+◌, length, IfOk};
+ghost use Rattle.scr_log.specs.declared.room.Room.TheVariants.{Free};
+ghost use Rattle.scr_log.specs.Passes.{IsNext, IsCurrent};
 
 use crate::{CorePass, Logs, Look, Room};
 use scr_base::{OutOfMemory, Row};
@@ -8,6 +10,8 @@ use std::sync::Wait;
 use std::test::Fail;
 use std::thread;
 use std::thread::Threads;
+
+mod layout;
 
 // The row of a counter of packets from 10.0.0.1.
 const ROW: Row = Row {
@@ -21,12 +25,7 @@ const ROW: Row = Row {
 };
 
 // A plan for two cores, with so many packets, such a history, and these frames dropped.
-fn two_cores(
-    alloc: Global,
-    packets: usize,
-    history: u32,
-    dropped: &[u8],
-) -> Result<RunPlan, Fail>
+fn two_cores(alloc: Global, packets: usize, history: u32, dropped: &[u8]) -> Result<RunPlan, Fail>
     requires few { packets ≤ 1000000 }
     requires short { history ≤ 64 }
     ensures packets { IfOk result (λ plan. length plan.rows ≡ packets) }
@@ -38,28 +37,17 @@ fn two_cores(
 }
 
 // Publishes the final entry for packet p, where the slot is free.
-fn publish(logs: &Logs, plan: &RunPlan, pass: &mut CorePass, p: u32) -> bool
-    requires of_these { pass.old.logs ≡ logs.now }
+fn publish(logs: &Logs, plan: &RunPlan, pass: &mut CorePass, p: u32) -> Room
     requires plan { logs.now.plan ≡ plan.now }
-    requires next { p ≡ pass.old.published + 1 }
-    requires idle { pass.old.published ≡ pass.old.finished }
-    requires within { p ≤ length plan.now.rows }
-    ensures published { result ≡ true → pass.new.published ≡ p }
-    ensures waits { result ≢ true → pass.new.published ≡ pass.old.published }
+    requires next { IsNext logs.now pass.old p }
+    ensures published { result ≡ Free → pass.new.published ≡ p }
+    ensures waits { result ≢ Free → pass.new.published ≡ pass.old.published }
     ensures finished { pass.new.finished ≡ pass.old.finished }
     ensures same { pass.new.logs ≡ pass.old.logs }
     ensures core { pass.new.core ≡ pass.old.core }
 {
-    match logs.room(pass, p) {
-        Room::NoRoom { .. } => false,
-        Room::Free => {
-            match plan.final_entry(pass.core(), p) {
-                Some(row) => logs.publish_row(pass, p, &row),
-                None => logs.publish_lost(pass, p),
-            }
-            true
-        }
-    }
+    let entry = plan.final_entry(pass.core(), p);
+    logs.publish(pass, p, entry.as_ref())
 }
 
 #[test]
@@ -78,12 +66,16 @@ fn two_cores_by_one_thread(rt: HostRuntime) -> Result<(), Fail> {
     let Err(late) = logs.claim(main) else {
         panic!(rt; "a core 2")
     };
-    let mut main = late.pass;
     assert_eq!(rt; (zero.core(), one.core(), late.number), (0, 1, 2));
+    let Err(late) = logs.claim(late.pass) else {
+        panic!(rt; "a core 3")
+    };
+    assert_eq!(rt; late.number, 3);
+    let mut main = late.pass;
 
-    assert!(rt; publish(&logs, &plan, &mut one, 1));
+    assert_eq!(rt; publish(&logs, &plan, &mut one, 1), Room::Free);
     assert_eq!(rt; logs.look(&mut one, 0, 1), Look::NotYet { tag: 0 });
-    assert!(rt; publish(&logs, &plan, &mut zero, 1));
+    assert_eq!(rt; publish(&logs, &plan, &mut zero, 1), Room::Free);
     assert_eq!(rt; logs.look(&mut one, 0, 1), Look::Row(ROW));
     assert_eq!(rt; logs.look(&mut zero, 1, 1), Look::Lost);
     assert_eq!(rt; (zero.published(), one.published()), (1, 1));
@@ -97,20 +89,36 @@ fn two_cores_by_one_thread(rt: HostRuntime) -> Result<(), Fail> {
     Ok(())
 }
 
+#[test]
+fn no_room_and_then_free(rt: HostRuntime) -> Result<(), Fail> {
+    let plan = two_cores(rt.alloc(), 2, 0, b"")?;
+    let (logs, mut main) = Logs::make(rt.alloc(), &plan, 1)?;
+    let first = main.split(&logs);
+    let (Ok(mut zero), Ok(mut one)) = (logs.claim(first), logs.claim(main)) else {
+        panic!(rt; "no two cores")
+    };
+    assert_eq!(rt; publish(&logs, &plan, &mut zero, 1), Room::Free);
+    logs.finish(&mut zero, 1);
+    let behind = Room::NoRoom { core: 1, done: 0 };
+    assert_eq!(rt; publish(&logs, &plan, &mut zero, 2), behind);
+    assert_eq!(rt; publish(&logs, &plan, &mut one, 1), Room::Free);
+    assert_eq!(rt; publish(&logs, &plan, &mut zero, 2), behind);
+    logs.finish(&mut one, 1);
+    assert_eq!(rt; publish(&logs, &plan, &mut zero, 2), Room::Free);
+    Ok(())
+}
+
 // Publishes the final entry for packet p, when the slot is free.
 fn publish_when_free<R: Wait>(rt: &R, logs: &Logs, plan: &RunPlan, pass: &mut CorePass, p: u32)
-    requires of_these { pass.old.logs ≡ logs.now }
     requires plan { logs.now.plan ≡ plan.now }
-    requires next { p ≡ pass.old.published + 1 }
-    requires idle { pass.old.published ≡ pass.old.finished }
-    requires within { p ≤ length plan.now.rows }
+    requires next { IsNext logs.now pass.old p }
     ensures published { pass.new.published ≡ p }
     ensures finished { pass.new.finished ≡ pass.old.finished }
     ensures same { pass.new.logs ≡ pass.old.logs }
     ensures core { pass.new.core ≡ pass.old.core }
 {
     for _ in rt.forever() {
-        if publish(logs, plan, pass, p) {
+        if publish(logs, plan, pass, p) == Room::Free {
             return;
         }
         thread::yield_now();
@@ -120,11 +128,9 @@ fn publish_when_free<R: Wait>(rt: &R, logs: &Logs, plan: &RunPlan, pass: &mut Co
 
 // The row of packet p in the log of another core, or none where it is lost there.
 fn entry_of<R: Wait>(rt: &R, logs: &Logs, pass: &mut CorePass, core: u32, p: u32) -> Option<Row>
-    requires of_these { pass.old.logs ≡ logs.now }
     requires core { core < logs.now.plan.cores }
     requires other { core ≢ pass.old.core }
-    requires published { p ≡ pass.old.published }
-    requires finished { p ≡ pass.old.finished + 1 }
+    requires current { IsCurrent logs.now pass.old p }
     ensures published { pass.new.published ≡ pass.old.published }
     ensures finished { pass.new.finished ≡ pass.old.finished }
     ensures same { pass.new.logs ≡ pass.old.logs }
@@ -187,12 +193,15 @@ fn by_two_threads<R: Threads + Wait + Sync>(
     let (Ok(zero), Ok(one)) = (logs.claim(first), logs.claim(main)) else {
         return Ok(false);
     };
-    thread::join(
-        rt,
-        || go_through(rt, &logs, plan, zero, of_one),
-        || go_through(rt, &logs, plan, one, of_zero),
-    );
-    Ok(true)
+    let logs = &logs;
+    Ok(thread::scope(thread::scope_env(), rt, |scope| {
+        let other = scope.spawn(move || go_through(rt, logs, plan, zero, of_one));
+        if other.is_err() {
+            return false;
+        }
+        go_through(rt, logs, plan, one, of_zero);
+        true
+    }))
 }
 
 #[test]

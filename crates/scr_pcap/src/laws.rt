@@ -14,7 +14,7 @@ pub fn one_reading()
     ensures { (bytes : List ℕ) (one other : Result (List Record) CaptureError) → IsReading bytes one → IsReading bytes other → one ≡ other }
 {}
 
-/// With a reader that took at most 1,000,000 records, the last of its calls or not, at most 262,160,000,025 bytes were taken.
+/// All calls of a reader together take at most 262,160,000,025 bytes of its source.
 pub fn most_bytes()
     ensures { (reader : ReaderState) → reader.taken ≤ RECORDS → reach reader ≤ 262160000025 }
 {}

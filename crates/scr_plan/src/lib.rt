@@ -6,14 +6,16 @@
 //! delivered frame carries a packet, and [`counts`] what one core does. A [`RunPlan`] holds what a run is made of.
 //!
 //! **What a contract sees.** A drop list as its list of ranges; a plan as the record of its rows, cores, history and
-//! drop list, whose bounds its calls tell. What is delivered, carried and kept are tests over frame and packet numbers,
-//! each with the same as a fact; the counts of a core count the numbers from 1 to the last frame that pass such a test.
+//! drop list, whose bounds its calls tell. What is delivered, carried and kept are tests over a plan and the numbers of
+//! its frames and packets, each with the same as a fact; the counts of a core count the numbers from 1 to the last frame
+//! that pass such a test. The order of a core's lane is the list of its beacons and frames as numbers, step by step.
 //! The final entry of a core for a packet is the packet's row, where a frame of its own carries it, or nothing.
 //!
 //! **What is proved.** Each call answers exactly by these definitions. A text is read as the list that it spells, or
 //! refused by its first faulty piece, and never both. A delivered packet is kept; a packet is kept by one of its own
 //! frame and as many behind it as the history says; with no drops every packet is kept. What a core's frames carry and
-//! what it recovers are together what is kept, and with what it skips they are all packets.
+//! what it recovers are together what is kept, and with what it skips they are all packets. A packet is lost at every
+//! core exactly where it isn't kept ([`lost_to_all`]).
 //!
 //! **What is only tested.** That there can be memory for a drop list, and the counts of worked runs.
 //!

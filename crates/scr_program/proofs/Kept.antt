@@ -127,6 +127,18 @@ module _ {K V : Type 0} {same : K → K → Bool} (laws : IsEquivalence same) (o
         subst (λ (es : List (K × Option V)). IsSome (lookup (same key) es)) (sym roomy.entries) (rw (here, self) refl)
   ]
 
+  -- where no room was made, the ready key may be forgotten
+  pub kept-forgotten : cache.cap ≡ flows → IsKept same flows cache None
+  kept-forgotten cap = record {
+    few = kept.few;
+    some = kept.some;
+    fits = kept.fits;
+    form = elim kept.form [
+      | inl plain ↦ inl (record { entries = plain.entries; cap = plain.cap; ready_is = tt })
+      | inr roomy ↦ let room = roomy.cap in absurd (omega arith)
+    ];
+  }
+
   module _ (other : (ready ≡ None) ⊎ (ready ≡ Some key)) where
     -- where the key isn't in the cache, no key is ready
     plain-where-absent : lookup (same key) cache.entries ≡ None → IsPlain same flows cache ready × (ready ≡ None)

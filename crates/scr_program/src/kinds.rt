@@ -8,6 +8,7 @@ const TCP: u16 = 2;
 const UDP: u16 = 3;
 
 /// Whether the kind of a row is that of an IP packet: `Bare`, `Tcp` or `Udp`.
+#[inline(always)]
 pub fn is_packet(kind: u16) -> bool
     ensures { result ≡ is_packet kind }
 {
@@ -15,6 +16,7 @@ pub fn is_packet(kind: u16) -> bool
 }
 
 /// Whether the kind of a row is that of a packet with ports: `Tcp` or `Udp`.
+#[inline(always)]
 pub fn has_ports(kind: u16) -> bool
     ensures { result ≡ has_ports kind }
 {
@@ -22,6 +24,7 @@ pub fn has_ports(kind: u16) -> bool
 }
 
 /// Whether the kind of a row is `Tcp`.
+#[inline(always)]
 pub fn is_tcp(kind: u16) -> bool
     ensures { result ≡ is_tcp kind }
 {
@@ -29,6 +32,7 @@ pub fn is_tcp(kind: u16) -> bool
 }
 
 /// Whether the kind of a row is `Udp`.
+#[inline(always)]
 pub fn is_udp(kind: u16) -> bool
     ensures { result ≡ is_udp kind }
 {

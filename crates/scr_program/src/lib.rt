@@ -1,20 +1,21 @@
 //! What the packet programs stand on: their trait, the rows that they read, and the table of flows that they keep.
 //!
 //! **What it does.** A [`Program`] makes a row of a frame and takes the rows one after another, with a verdict on each.
-//! [`fields_of`], [`pack`] and [`unpack`] turn a frame into fields and fields into a row and back, and [`read_setting`]
-//! reads the value of a setting. A [`FlowTable`] keeps the flows that were used last, over the cache of the crate `lru`,
-//! by keys such as an [`Address`] or a [`FiveTuple`]. [`FlowTable::update`] changes an entry by one look-up.
+//! One that keeps an entry for each key is [`Keyed`], and by that a program. [`fields_of`], [`pack`] and [`unpack`] turn a
+//! frame into fields and fields into a row and back, [`is_packet`] and its kin tell kinds, and [`read_setting`] reads the
+//! value of a setting. A [`FlowTable`] keeps the flows that were used last, over the cache of the crate `lru`, by keys such
+//! as an [`Address`] or a [`FiveTuple`]. [`FlowTable::update`] changes an entry by one look-up.
 //!
 //! **What a contract sees.** A program by six definitions over plain data: the row of a frame and a time, whether a
 //! state stands for a list of rows, the verdict of a row after a list, the count of entries after a list, whether a
 //! state is ready for a row, and the names of the verdicts. A table as the most flows that it holds, its flows with the
 //! most recently used first, and the key that is ready. specs/FlowList.antt says what setting a key leaves, and
-//! specs/Folds.antt what a program is that is a step on such a list.
+//! specs/Folds.antt what a program is that is a step on such a list, and specs/Keyed.antt the step of one by key.
 //!
 //! **What is proved.** The table is the list of the definition, for each call and both answers; a refused call leaves
 //! the flows as they were, and a key that is a flow's, or is ready, is never refused. A row is the fields at their
-//! places, and is read back as these fields. Each program's crate proves the clauses of the trait for its own step, by
-//! the lemmas of proofs/Folds.antt.
+//! places, and is read back as these fields. A program by key meets the clauses of [`Program`], whichever it is; its
+//! crate proves only that its calls are its definitions.
 //!
 //! **What is only tested.** That calls succeed where there is memory, and the words of a datagram's rows.
 //!

@@ -129,9 +129,10 @@ impl<K: FlowKey, V: Copy + Drop> FlowTable<K, V> {
         ensures known_succeeds { IsSome (lookup (K.eq key.now) self.old.list) → IsOk result }
         ensures ready_succeeds { self.old.ready ≡ Some key.now → IsOk result }
     {
-        if self.ready.is_some() {
-            return self.update_beside_ready(*key, next);
+        if self.cache.cap() != self.flows {
+            return self.update_with_room(key, next);
         }
+        self.ready = None;
         change(&mut self.cache, key, next)
     }
 
@@ -162,26 +163,25 @@ impl<K: FlowKey, V: Copy + Drop> FlowTable<K, V> {
         Ok(told)
     }
 
-    // The same where a key is ready. The room that was made for it is given back.
+    // The same where room was made for a ready key. The room is given back.
     #[cold]
     #[inline(never)]
-    fn update_beside_ready<T: Drop, F: FnOnce(Option<V>) -> (V, T)>(
+    fn update_with_room<T: Drop, F: FnOnce(Option<V>) -> (V, T)>(
         &mut self,
-        key: K,
+        key: &K,
         next: F,
     ) -> Result<T, OutOfMemory>
         requires { F.IsAlwaysCallable next }
-        ensures updated { IfOk result (λ told. (entry : V) × F.post next (lookup (K.eq key) self.old.list) (entry, told)
-            × (self.new.list ≡ set_key K.eq self.old.flows self.old.list key entry)) }
+        ensures updated { IfOk result (λ told. (entry : V) × F.post next (lookup (K.eq key.now) self.old.list) (entry, told)
+            × (self.new.list ≡ set_key K.eq self.old.flows self.old.list key.now entry)) }
         ensures err { OnErr result (self.new.list ≡ self.old.list) }
         ensures flows { self.new.flows ≡ self.old.flows }
         ensures ready { self.new.ready ≡ None }
-        ensures known_succeeds { IsSome (lookup (K.eq key) self.old.list) → IsOk result }
-        ensures ready_succeeds { self.old.ready ≡ Some key → IsOk result }
+        ensures known_succeeds { IsSome (lookup (K.eq key.now) self.old.list) → IsOk result }
+        ensures ready_succeeds { self.old.ready ≡ Some key.now → IsOk result }
     {
-        self.forget_other(&key);
-        let (entry, told) = next(self.find(&key));
-        put(&mut self.cache, key, entry)?;
+        self.forget_other(key);
+        let told = change(&mut self.cache, key, next)?;
         self.cache.resize(self.flows);
         self.ready = None;
         Ok(told)

@@ -211,3 +211,66 @@ fn five_tuples_are_keys(rt: HostRuntime) -> Result<(), OutOfMemory> {
     );
     Ok(())
 }
+
+#[test]
+fn a_flow_that_is_made_ready_is_as_before(rt: HostRuntime) -> Result<(), OutOfMemory> {
+    let mut table = FlowTable::make(rt.alloc(), 2)?;
+    table.set(FIRST, 1u64)?;
+    table.set(SECOND, 2)?;
+    table.prepare(FIRST)?;
+    table.prepare(FIRST)?;
+    table.set(FIRST_V6, 3)?;
+    assert_eq!(rt; (table.look(&FIRST), table.look(&SECOND)), (None, Some(2)));
+    table.prepare(SECOND)?;
+    let next = |known: Option<u64>| (known.unwrap_or(10), known);
+    assert_eq!(rt; table.update(&SECOND, next)?, Some(2));
+    table.set(FIRST, 4)?;
+    assert_eq!(rt;
+        (table.look(&FIRST_V6), table.look(&SECOND)),
+        (None, Some(2))
+    );
+    assert_eq!(rt; table.len(), 2);
+    Ok(())
+}
+
+#[test]
+fn no_entry_changes_nothing(rt: HostRuntime) -> Result<(), OutOfMemory> {
+    let mut table = FlowTable::make(rt.alloc(), 2)?;
+    table.set(FIRST, 1u64)?;
+    table.set(SECOND, 2)?;
+    assert_eq!(rt; table.update_where(&FIRST, |known| (None, known))?, Some(1));
+    assert_eq!(rt; table.update_where(&FIRST_V6, |known| (None, known))?, None);
+    assert_eq!(rt;
+        table.update_where(&FIRST_V6, |known| (Some(3), known))?,
+        None
+    );
+    assert_eq!(rt; (table.look(&FIRST), table.look(&SECOND)), (None, Some(2)));
+    assert_eq!(rt;
+        table.update_where(&FIRST_V6, |known| (Some(4), known))?,
+        Some(3)
+    );
+    assert_eq!(rt; table.look(&FIRST_V6), Some(4));
+    Ok(())
+}
+
+#[test]
+fn the_largest_table_takes_another_flow(rt: HostRuntime) -> Result<(), OutOfMemory> {
+    let mut table = FlowTable::make(rt.alloc(), MOST_FLOWS)?;
+    for number in 0..=65_536u32 {
+        let key = Address {
+            family: 0,
+            value: u128::from(number),
+        };
+        table.set(key, number)?;
+    }
+    let first = Address {
+        family: 0,
+        value: 0,
+    };
+    assert_eq!(rt; table.len(), 65_536);
+    assert_eq!(rt; table.look(&first), None);
+    table.prepare(first)?;
+    table.set(first, 7)?;
+    assert_eq!(rt; (table.look(&first), table.len()), (Some(7), 65_536));
+    Ok(())
+}

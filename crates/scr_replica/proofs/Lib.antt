@@ -10,3 +10,4 @@ pub mod OneCoreOfAll
 pub mod Deciding
 pub mod Undivided
 pub mod Counted
+pub mod Numbers

@@ -12,7 +12,7 @@
 //!
 //! **What is proved.** A run by phases gives the verdicts and the entries of the one-core answer, and the counts of each core
 //! as the plan defines them. It returns, and waits for nobody. Want of memory is its only other answer. Where no frame is
-//! dropped, the one-core answer is over all rows ([`one_core_of_all`]). Lemmas of proofs/Deciding.antt say what a core knows
+//! dropped, the one-core answer is over all rows ([`one_core_of_all`]). One verdict is given for each delivered frame, in capture order ([`one_verdict_each`]). Lemmas of proofs/Deciding.antt say what a core knows
 //! after each message of its lane: just the packets that these messages decide, each by its final entry.
 //!
 //! **What is only tested.** That there is an answer where there is memory, and the verdicts, counts and entries of runs that
@@ -36,6 +36,6 @@ mod replay;
 mod tests;
 
 pub use gathered::{CoreResult, Gathered};
-pub use laws::one_core_of_all;
+pub use laws::{none_dropped, one_core_of_all, one_verdict_each};
 pub use merging::gather;
 pub use phases::run_phases;

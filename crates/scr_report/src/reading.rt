@@ -5,10 +5,10 @@ ghost use Rattle.scr_report.specs.Grammar.{ReadsAs};
 ghost use Rattle.scr_report.specs.Memory.{IsOfMemory, IsOfText};
 ghost use Rattle.scr_report.specs.Parts.{ReadsVerdicts, ReadsFrames, LacksFrames, ReadsCores, ReadsFlows, LacksFlows, ReadsTotals, LacksTotal};
 
-use crate::line::{FrameCounts, core_in, flows_in, frames_in, total_in, verdict_in};
+use crate::line::{core_in, flows_in, frames_in, total_in, verdict_in};
 use crate::lines::Lines;
 use crate::names::Names;
-use crate::report::{Report, ReportError};
+use crate::report::{FrameCounts, Report, ReportError};
 use scr_plan::{CoreCounts, Given};
 use std::alloc::Global;
 

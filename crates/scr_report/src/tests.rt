@@ -1,4 +1,7 @@
-use crate::{Names, Report, ReportError, is_plain, read_report, write_line, write_report};
+use crate::{
+    FrameCounts, Names, Report, ReportError, is_plain, read_report, verdicts_then_rest, write_line,
+    write_report,
+};
 use scr_base::{MemSink, OutOfMemory, Sink, SinkError, SureSink, Verdict};
 use scr_plan::{CoreCounts, Given};
 use std::alloc::Global;
@@ -211,6 +214,34 @@ fn write_worked<O: Sink>(
     };
     assert!(rt; is_plain(&names, &report));
     write_report(&names, &report, with_verdicts, out)
+}
+
+#[test]
+fn counts_the_names(rt: HostRuntime) -> Result<(), Fail> {
+    let names = names_of(&rt, rt.alloc(), &DDOS)?;
+    let mut verdicts = Vec::new(rt.alloc());
+    for (number, verdict) in [(1, 0), (2, 2), (3, 0)] {
+        verdicts.push(Given {
+            number,
+            verdict: Verdict(verdict),
+        })?;
+    }
+    let counts = FrameCounts {
+        frames: 3,
+        delivered: 3,
+        kept: 3,
+    };
+    let report = Report::of(
+        rt.alloc(),
+        &names,
+        verdicts,
+        counts,
+        Vec::new(rt.alloc()),
+        1,
+    )?;
+    assert_eq!(rt; report.totals.as_slice(), &[2u64, 0, 1][..]);
+    verdicts_then_rest();
+    Ok(())
 }
 
 #[test]

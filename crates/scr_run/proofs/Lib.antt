@@ -3,4 +3,5 @@ pub mod Ending
 pub mod Counts
 pub mod Written
 pub mod Loading
+pub mod ByCommand
 pub mod Main

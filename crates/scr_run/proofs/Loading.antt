@@ -1,33 +1,35 @@
--- How a run over a capture that is made up ends: no answer speaks of the capture.
-use Rattle.std.proofs.Common.{◌≡◌, ℕ, List, Option, Some, Result, Ok, Err, subst, inl, inr}
-use Rattle.scr_base.specs.Causes.{Rose}
+-- How a run over a capture that is made up ends: a text is asked for, and no read fails.
+use Rattle.std.proofs.Common.{◌≡◌, ℕ, List, Option, Some, Result, Ok, Err, refl, arith}
 use Rattle.scr_pcap.specs.Records.{Record}
 use Rattle.scr_pcap.specs.Reading.{IsReading}
 use Rattle.scr_pcap.specs.declared.error.CaptureError.{CaptureError}
-use Rattle.scr_pcap.specs.declared.error.CaptureError.TheVariants as capture
 use Rattle.scr_run.specs.declared.status.Status.{Status}
 use Rattle.scr_run.specs.declared.status.Status.TheVariants.{Done, Words, Capture, ReadFault, WriteFault, OutOfMemory, TooMany}
-use Rattle.scr_run.specs.Ends.{Ends, WritesReport, WritesFront, HasFault}
-use Rattle.scr_run.specs.Answers.{LoadEnds}
+use Rattle.scr_run.specs.Asked.{IsOfCapture}
+use Rattle.scr_run.specs.Ends.{Ends, IsText, Stands}
+use Rattle.scr_run.proofs.Ending.{Ends-through, Ends-behind, IsOfCapture-by}
 
-module _ (text : List Record → List ℕ) (made : List ℕ) {S O : Type 0} (left : S → Option (List ℕ)) (faults : S → ℕ) (written : O → Option (List ℕ)) (write_faults : O → ℕ) where
-  pub LoadEnds-from : (old new : S) (out_old out_new : O) (status : Status) (records : List Record)
-      → ((one other : Result (List Record) CaptureError) → IsReading made one → IsReading made other → one ≡ other)
-      → IsReading made (Ok records) → left old ≡ Some made → (Rose (faults old) (faults new) → ⊥)
-      → Ends text left faults written write_faults old new out_old out_new status
-      → LoadEnds text made written write_faults out_old out_new status
-  LoadEnds-from old new out_old out_new Done records same reading told calm ends =
-      subst (λ (l : Option (List ℕ)). WritesReport text l (written out_old) (written out_new)) told ends.0
-  LoadEnds-from old new out_old out_new WriteFault records same reading told calm ends =
-      (ends.0, subst (λ (l : Option (List ℕ)). WritesFront text l (written out_old) (written out_new)) told ends.1)
-  LoadEnds-from old new out_old out_new OutOfMemory records same reading told calm (inl unchanged) = inl unchanged
-  LoadEnds-from old new out_old out_new OutOfMemory records same reading told calm (inr front) =
-      inr (subst (λ (l : Option (List ℕ)). WritesFront text l (written out_old) (written out_new)) told front)
-  LoadEnds-from old new out_old out_new (Capture error) records same reading told calm ends =
-      let has : IsReading made (Err error) = subst (λ (l : Option (List ℕ)). HasFault l error) told ends.0.1 in
-      absurd (cc (same (Err error) (Ok records) has reading))
-  LoadEnds-from old new out_old out_new (TooMany limit) records same reading told calm ends =
-      let has : IsReading made (Err (capture.TooMany limit)) = subst (λ (l : Option (List ℕ)). HasFault l (capture.TooMany limit)) told ends.0.1 in
-      absurd (cc (same (Err (capture.TooMany limit)) (Ok records) has reading))
-  LoadEnds-from old new out_old out_new ReadFault records same reading told calm ends = absurd (calm ends.0)
-  LoadEnds-from old new out_old out_new (Words fault) records same reading told calm ends = absurd ends
+module _ (text : List Record → List ℕ) (bytes : List ℕ) (left : Option (List ℕ)) (records : List Record) (AtEnd : Type 0)
+    {O : Type 0} (written : O → Option (List ℕ)) (faults wants : O → ℕ) (old new : O) where
+  no_fault : (failed : ℕ) (status : Status) → Ends (IsOfCapture text left) (Unit {0}) AtEnd written 0 0 faults wants old new status
+      → Stands (IsOfCapture text left) ⊥ AtEnd written old new status
+  no_fault failed Done ends = ends.stands
+  no_fault failed (Words fault) ends = ends.stands
+  no_fault failed (Capture error) ends = ends.stands
+  no_fault failed (TooMany limit) ends = ends.stands
+  no_fault failed ReadFault ends = let rose = ends.reads in absurd (omega (arith, rose))
+  no_fault failed WriteFault ends = ends.stands
+  no_fault failed (OutOfMemory want) ends = ends.stands
+
+  pub Ends-of_load : (Asked : Result (List ℕ) Status → Type 0) (Takes End : Type 0) (failed : ℕ) (status : Status)
+      → ((one other : Result (List Record) CaptureError) → IsReading bytes one → IsReading bytes other → one ≡ other)
+      → left ≡ Some bytes → IsReading bytes (Ok records) → Asked (Ok (text records)) → End
+      → Ends (IsOfCapture text left) (Unit {0}) AtEnd written 0 0 faults wants old new status
+      → Ends Asked Takes End written failed failed faults wants old new status
+  Ends-of_load Asked Takes End failed status same is read asked end ends =
+      let stands = no_fault failed status ends in
+      let whole : Ends (IsOfCapture text left) ⊥ AtEnd written 0 0 faults wants old new status =
+      record { stands = stands; reads = ends.reads; writes = ends.writes; wants_behind = ends.wants_behind } in
+      let only = Ends-through (IsOfCapture text left) (IsText (text records)) ⊥ ⊥ AtEnd (Unit {0}) written old new
+      (λ a of. IsOfCapture-by text bytes left (Ok records) a same is read of) (λ none. none) (λ any. tt) 0 0 faults wants status whole in
+      Ends-behind written faults wants old new (text records) Asked Takes End failed failed status asked end refl only

@@ -1,140 +1,130 @@
--- How the whole program ends, from how the run of its command ended.
-use Rattle.std.proofs.Common.{◌≡◌, ℕ, true, false, List, [], ◌∷◌, Option, Some, Result, Ok, Err, refl, sym, ap, ◌∙◌, subst, inl, inr}
-use Rattle.scr_base.specs.Causes.{Rose}
-use Rattle.scr_pcap.specs.Generated.{generated}
+-- How the whole program ends, from how the run of its command ended; and which status the words and the capture ask for.
+use Rattle.std.proofs.Common.{◌≡◌, ◌⊎◌, inl, inr, ℕ, Bool, true, false, List, [], ◌∷◌, Option, Some, Result, Ok, Err, refl, sym, ap, ◌∙◌, subst}
+use Rattle.std.specs.Option.{option_map_or}
+use Rattle.scr_pcap.specs.Generated.{generated_records}
 use Rattle.scr_pcap.specs.Records.{Record}
 use Rattle.scr_pcap.specs.Reading.{IsReading}
 use Rattle.scr_pcap.specs.declared.error.CaptureError.{CaptureError}
-use Rattle.scr_pcap.specs.declared.error.CaptureError.TheVariants as capture
-use Rattle.scr_run.specs.declared.status.Status.{Status}
-use Rattle.scr_run.specs.declared.status.Status.TheVariants.{Done, Words, Capture, ReadFault, WriteFault, OutOfMemory, TooMany}
 use Rattle.scr_words.specs.declared.settings.Command.{Command}
 use Rattle.scr_words.specs.declared.settings.Command.TheVariants.{Run, Plain, Load}
 use Rattle.scr_words.specs.declared.settings.RunSettings.{RunSettings}
-use Rattle.scr_words.specs.Operands.{makes_load}
+use Rattle.scr_words.specs.declared.word_fault.WordFault.{WordFault}
+use Rattle.scr_words.specs.Operands.{command_named, makes_load}
+use Rattle.scr_words.specs.declared.reading.WordsError.{WordsError}
+use Rattle.scr_words.specs.declared.reading.WordsError.TheVariants as error
+use Rattle.scr_words.specs.WordFaults.{AreRefused}
+use Rattle.scr_words.specs.WordTests.{AreRefusedBy}
 use Rattle.scr_words.specs.GivenSettings.{AreAccepted}
-use Rattle.scr_run.specs.Ends.{Ends, WritesReport, WritesFront, HasFault, status_of, IsUnlessOutOfMemory}
-use Rattle.scr_run.specs.Answers.{asks_for_load, capture_by, capture_for, text_for, HasWritten, HasBegun, LoadEnds, EndsBy, MainEnds}
-use Rattle.scr_words.proofs.OneAnswer.{AreAccepted-not_refused}
+use Rattle.scr_words.proofs.OneAnswer.{AreAccepted-not_refused, AreRefused-same}
+use Rattle.scr_run.specs.declared.status.Status.{Status}
+use Rattle.scr_run.specs.declared.status.Status.TheVariants.{Done, Words}
+use Rattle.scr_run.specs.Asked.{IsOfCapture, IsByCommand, IsBySettings, IsAsked, AreForNothing, AreForRun, TakeCapture, text_for}
+use Rattle.scr_run.specs.Ends.{Ends, IsText, status_of_words}
+use Rattle.scr_run.proofs.Ending.{Ends-through, status_asked, status_read, status_asked-by, IsOfCapture-by}
 
--- accepted words ask for a load where their command makes one
-pub asks-load : (words : List (List ℕ)) (settings : RunSettings) → AreAccepted words settings → asks_for_load words ≡ makes_load settings.command
+-- accepted words make a load where their first one says so
+abbrev asks_for_load : List (List ℕ) → Bool
+asks_for_load [] = false
+asks_for_load (first ∷ operands) = option_map_or makes_load (command_named first) false
+
+asks-load : (words : List (List ℕ)) (settings : RunSettings) → AreAccepted words settings → makes_load settings.command ≡ asks_for_load words
 asks-load [] settings accepted = absurd accepted
 asks-load (first ∷ operands) settings accepted = rw accepted.command refl
 
-module _ (words : List (List ℕ)) (settings : RunSettings) (accepted : AreAccepted words settings) (made : List ℕ) where
-  written_by : (left before now capture : Option (List ℕ)) → capture_for settings left ≡ capture
-      → WritesReport (text_for settings) capture before now → HasWritten words left before now
-  written_by left before now capture is writes = record {
-    settings = settings;
-    accepted = accepted;
-    writes = subst (λ (l : Option (List ℕ)). WritesReport (text_for settings) l before now) (sym is) writes;
-  }
+-- so do all settings of these words
+pub same-load : (words : List (List ℕ)) (one other : RunSettings) → AreAccepted words one → AreAccepted words other
+    → makes_load one.command ≡ makes_load other.command
+same-load words one other is_one is_other = asks-load words one is_one ∙ sym (asks-load words other is_other)
 
-  begun_by : (left before now capture : Option (List ℕ)) → capture_for settings left ≡ capture
-      → WritesFront (text_for settings) capture before now → HasBegun words left before now
-  begun_by left before now capture is writes = record {
-    settings = settings;
-    accepted = accepted;
-    writes = subst (λ (l : Option (List ℕ)). WritesFront (text_for settings) l before now) (sym is) writes;
-  }
+-- a command that makes no load takes a capture
+by_capture : (text : List Record → List ℕ) (made : List Record) (left : Option (List ℕ)) (command : Command) (asked : Result (List ℕ) Status)
+    → makes_load command ≡ false → IsByCommand text made left command asked → IsOfCapture text left asked
+by_capture text made left Run asked takes is = is
+by_capture text made left Plain asked takes is = is
+by_capture text made left Load asked takes is = absurd cc
 
-  module _ {S O : Type 0} (left : S → Option (List ℕ)) (faults : S → ℕ) (written : O → Option (List ℕ)) (write_faults : O → ℕ) (old new : S) (out_old out_new : O) where
-    by_reading : asks_for_load words ≡ false → capture_for settings (left old) ≡ left old → (status : Status)
-        → Ends (text_for settings) left faults written write_faults old new out_old out_new status
-        → MainEnds words left faults written write_faults old new out_old out_new status
-    by_reading asks is Done ends = (written_by (left old) _ _ (left old) is ends.0, λ _. ends.1)
-    by_reading asks is WriteFault ends = (ends.0, begun_by (left old) _ _ (left old) is ends.1)
-    by_reading asks is OutOfMemory (inl same) = inl same
-    by_reading asks is OutOfMemory (inr front) = inr (begun_by (left old) _ _ (left old) is front)
-    by_reading asks is (Capture error) ends = (ends.0, ends.1, asks)
-    by_reading asks is (TooMany limit) ends = (ends.0, ends.1, asks)
-    by_reading asks is ReadFault ends = (ends.0, ends.1, asks)
-    by_reading asks is (Words fault) ends = absurd ends
+by_load : (text : List Record → List ℕ) (made : List Record) (left : Option (List ℕ)) (command : Command) (asked : Result (List ℕ) Status)
+    → makes_load command ≡ true → IsByCommand text made left command asked → IsText (text made) asked
+by_load text made left Run asked makes is = absurd cc
+by_load text made left Plain asked makes is = absurd cc
+by_load text made left Load asked makes is = is
 
-    by_load : asks_for_load words ≡ true → capture_for settings (left old) ≡ Some made → (status : Status)
-        → LoadEnds (text_for settings) made written write_faults out_old out_new status
-        → MainEnds words left faults written write_faults old new out_old out_new status
-    by_load asks is Done ends = (written_by (left old) _ _ (Some made) is ends, λ other. absurd (cc (sym asks ∙ other)))
-    by_load asks is WriteFault ends = (ends.0, begun_by (left old) _ _ (Some made) is ends.1)
-    by_load asks is OutOfMemory (inl same) = inl same
-    by_load asks is OutOfMemory (inr front) = inr (begun_by (left old) _ _ (Some made) is front)
-    by_load asks is (Capture error) ends = absurd ends
-    by_load asks is (TooMany limit) ends = absurd ends
-    by_load asks is ReadFault ends = absurd ends
-    by_load asks is (Words fault) ends = absurd ends
+module _ (words : List (List ℕ)) (left : Option (List ℕ)) (asked : Result (List ℕ) Status) where
+  -- where the words are refused, their fault's status is asked for
+  pub asked-refused : (fault : WordFault) → AreRefused words fault → IsAsked words left asked → status_asked asked ≡ Words fault
+  asked-refused fault refused (inl nothing) =
+      let same = AreRefused-same words nothing.fault fault nothing.refused refused in
+      let fault_is : nothing.fault ≡ fault = λ i. record { word = same.0 i; cause = same.1 i } in
+      ap status_asked nothing.told ∙ ap (λ (f : WordFault). Words f) fault_is
+  asked-refused fault refused (inr run) = absurd (AreAccepted-not_refused words run.settings fault run.accepted refused)
 
-    pub MainEnds-by : generated settings.start settings.frames settings.hosts ≡ made → (command : Command) → settings.command ≡ command → (status : Status)
-        → EndsBy (text_for settings) made left faults written write_faults command old new out_old out_new status
-        → MainEnds words left faults written write_faults old new out_old out_new status
-    MainEnds-by is Run command status ends =
-        by_reading (asks-load words settings accepted ∙ ap makes_load command) (ap (λ (c : Command). capture_by c (generated settings.start settings.frames settings.hosts) (left old)) command) status ends
-    MainEnds-by is Plain command status ends =
-        by_reading (asks-load words settings accepted ∙ ap makes_load command) (ap (λ (c : Command). capture_by c (generated settings.start settings.frames settings.hosts) (left old)) command) status ends
-    MainEnds-by is Load command status ends =
-        by_load (asks-load words settings accepted ∙ ap makes_load command)
-        (ap (λ (c : Command). capture_by c (generated settings.start settings.frames settings.hosts) (left old)) command ∙ ap (λ (bytes : List ℕ). Some bytes) is) status ends.0
+  -- where they make a load, a text is
+  pub asked-load : (settings : RunSettings) → AreAccepted words settings → makes_load settings.command ≡ true → IsAsked words left asked
+      → status_asked asked ≡ Done
+  asked-load settings accepted makes (inl nothing) = absurd (AreAccepted-not_refused words settings nothing.fault accepted nothing.refused)
+  asked-load settings accepted makes (inr run) =
+      let load = same-load words run.settings settings run.accepted accepted ∙ makes in
+      ap status_asked (by_load (text_for run.settings) (generated_records run.settings.start run.settings.frames run.settings.hosts) left run.settings.command asked load run.told)
 
--- where no load is asked for, the capture is what the source had left
-capture-left : (words : List (List ℕ)) (settings : RunSettings) (left : Option (List ℕ)) → AreAccepted words settings → asks_for_load words ≡ false
-    → capture_for settings left ≡ left
-capture-left words settings left accepted asks = at settings.command refl
-  where
-    at : (command : Command) → settings.command ≡ command → capture_for settings left ≡ left
-    at Run is = ap (λ (c : Command). capture_by c (generated settings.start settings.frames settings.hosts) left) is
-    at Plain is = ap (λ (c : Command). capture_by c (generated settings.start settings.frames settings.hosts) left) is
-    at Load is = absurd (cc (sym asks ∙ asks-load words settings accepted ∙ ap makes_load is))
+  -- where they take a capture, what its reading asks for is
+  pub asked-capture : (bytes : List ℕ) (reading : Result (List Record) CaptureError)
+      → ((one other : Result (List Record) CaptureError) → IsReading bytes one → IsReading bytes other → one ≡ other)
+      → TakeCapture words → left ≡ Some bytes → IsReading bytes reading → IsAsked words left asked → status_asked asked ≡ status_read reading
+  asked-capture bytes reading same takes is read (inl nothing) = absurd (AreAccepted-not_refused words takes.settings nothing.fault takes.accepted nothing.refused)
+  asked-capture bytes reading same takes is read (inr run) =
+      let no_load = same-load words run.settings takes.settings run.accepted takes.accepted ∙ takes.takes in
+      let of = by_capture (text_for run.settings) (generated_records run.settings.start run.settings.frames run.settings.hosts) left run.settings.command asked no_load run.told in
+      ap status_asked (IsOfCapture-by (text_for run.settings) bytes left reading asked same is read of) ∙ status_asked-by (text_for run.settings) reading
 
-module _ (words : List (List ℕ)) (asks : asks_for_load words ≡ false) (bytes : List ℕ) where
-  -- a report was begun only of a capture with records
-  has_records : (left before now : Option (List ℕ)) → left ≡ Some bytes → HasWritten words left before now → (records : List Record) × IsReading bytes (Ok records)
-  has_records left before now told has =
-      let is = capture-left words has.settings left has.accepted asks ∙ told in
-      let (records, reading, gained) = subst (λ (l : Option (List ℕ)). WritesReport (text_for has.settings) l before now) is has.writes in
-      (records, reading)
+-- refused words take no capture
+pub refused-takes : (words : List (List ℕ)) (fault : WordFault) → AreRefused words fault → TakeCapture words → ⊥
+refused-takes words fault refused takes = AreAccepted-not_refused words takes.settings fault takes.accepted refused
 
-  has_begun_records : (left before now : Option (List ℕ)) → left ≡ Some bytes → HasBegun words left before now → (records : List Record) × IsReading bytes (Ok records)
-  has_begun_records left before now told has =
-      let is = capture-left words has.settings left has.accepted asks ∙ told in
-      let (records, reading, front) = subst (λ (l : Option (List ℕ)). WritesFront (text_for has.settings) l before now) is has.writes in
-      (records, reading)
+-- nor do those that make a load
+pub load-takes : (words : List (List ℕ)) (settings : RunSettings) → AreAccepted words settings → makes_load settings.command ≡ true → TakeCapture words → ⊥
+load-takes words settings accepted makes takes =
+    let both = sym makes ∙ same-load words settings takes.settings accepted takes.accepted ∙ takes.takes in
+    cc
 
-  module _ {S O : Type 0} (left : S → Option (List ℕ)) (faults : S → ℕ) (written : O → Option (List ℕ)) (write_faults : O → ℕ) (old new : S) (out_old out_new : O)
-      (settings : RunSettings) (accepted : AreAccepted words settings) (told : left old ≡ Some bytes)
-      (same : (one other : Result (List Record) CaptureError) → IsReading bytes one → IsReading bytes other → one ≡ other)
-      (calm : Rose (faults old) (faults new) → ⊥) where
-    -- a malformed capture is answered as such, unless memory ran out
-    pub main-malformed : (status : Status) (fault : CaptureError) → IsReading bytes (Err fault)
-        → MainEnds words left faults written write_faults old new out_old out_new status → IsUnlessOutOfMemory status (status_of fault)
-    main-malformed Done fault reading ends =
-        let (records, has) = has_records (left old) _ _ told ends.0 in
-        absurd (cc (same (Ok records) (Err fault) has reading))
-    main-malformed (Words refused) fault reading ends = absurd (AreAccepted-not_refused words settings refused accepted ends.0)
-    main-malformed (Capture error) fault reading ends =
-        let has : IsReading bytes (Err error) = subst (λ (l : Option (List ℕ)). HasFault l error) told ends.0.1 in
-        let e : error ≡ fault = cc (same (Err error) (Err fault) has reading) in
-        inl (sym ends.0.0 ∙ ap status_of e)
-    main-malformed (TooMany limit) fault reading ends =
-        let has : IsReading bytes (Err (capture.TooMany limit)) = subst (λ (l : Option (List ℕ)). HasFault l (capture.TooMany limit)) told ends.0.1 in
-        let e : capture.TooMany limit ≡ fault = cc (same (Err (capture.TooMany limit)) (Err fault) has reading) in
-        inl (ap status_of e)
-    main-malformed ReadFault fault reading ends = absurd (calm ends.0)
-    main-malformed WriteFault fault reading ends =
-        let (records, has) = has_begun_records (left old) _ _ told ends.1 in
-        absurd (cc (same (Ok records) (Err fault) has reading))
-    main-malformed OutOfMemory fault reading ends = inr refl
+-- the run of the settings is the run of the words
+module _ (words : List (List ℕ)) (settings : RunSettings) (accepted : AreAccepted words settings) (left : Option (List ℕ)) (AtEnd : Type 0)
+    {O : Type 0} (written : O → Option (List ℕ)) (old new : O) where
+  pub Ends-of_words : (failed_before failed : ℕ) (faults wants : O → ℕ) (status : Status)
+      → Ends (IsBySettings settings left) (makes_load settings.command ≡ false) (makes_load settings.command ≡ false → AtEnd) written failed_before failed faults wants old new status
+      → Ends (IsAsked words left) (TakeCapture words) (TakeCapture words → AtEnd) written failed_before failed faults wants old new status
+  Ends-of_words failed_before failed faults wants status ends =
+      Ends-through (IsBySettings settings left) (IsAsked words left) (makes_load settings.command ≡ false) (TakeCapture words)
+      (makes_load settings.command ≡ false → AtEnd) (TakeCapture words → AtEnd) written old new
+      (λ asked is. inr (record { settings = settings; accepted = accepted; told = is }))
+      (λ no_load. record { settings = settings; accepted = accepted; takes = no_load })
+      (λ end takes. end (same-load words settings takes.settings accepted takes.accepted ∙ takes.takes))
+      failed_before failed faults wants status ends
 
-    -- over a valid capture and calm streams the report is written, unless memory ran out
-    pub main-complete : (status : Status) (records : List Record) → IsReading bytes (Ok records) → (Rose (write_faults out_old) (write_faults out_new) → ⊥)
-        → MainEnds words left faults written write_faults old new out_old out_new status → IsUnlessOutOfMemory status Done
-    main-complete Done records reading calm_out ends = inl refl
-    main-complete (Words refused) records reading calm_out ends = absurd (AreAccepted-not_refused words settings refused accepted ends.0)
-    main-complete (Capture error) records reading calm_out ends =
-        let has : IsReading bytes (Err error) = subst (λ (l : Option (List ℕ)). HasFault l error) told ends.0.1 in
-        absurd (cc (same (Err error) (Ok records) has reading))
-    main-complete (TooMany limit) records reading calm_out ends =
-        let has : IsReading bytes (Err (capture.TooMany limit)) = subst (λ (l : Option (List ℕ)). HasFault l (capture.TooMany limit)) told ends.0.1 in
-        absurd (cc (same (Err (capture.TooMany limit)) (Ok records) has reading))
-    main-complete ReadFault records reading calm_out ends = absurd (calm ends.0)
-    main-complete WriteFault records reading calm_out ends = absurd (calm_out ends.0)
-    main-complete OutOfMemory records reading calm_out ends = inr refl
+-- refused words end the run before it begins
+pub Ends-of_refusal : (words : List (List ℕ)) (left : Option (List ℕ)) (AtEnd : Type 0) {O : Type 0} (written : O → Option (List ℕ)) (faults wants : O → ℕ) (out : O)
+    (failed : ℕ) (error : WordsError) (status : Status) → status ≡ status_of_words error → AreRefusedBy words error
+    → Ends (IsAsked words left) (TakeCapture words) AtEnd written failed failed faults wants out out status
+Ends-of_refusal words left AtEnd written faults wants out failed (error.Refused fault) status is refused =
+    subst (λ (s : Status). Ends (IsAsked words left) (TakeCapture words) AtEnd written failed failed faults wants out out s) (sym is) (record {
+      stands = (inl (record { fault = fault; refused = refused; told = refl }), refl);
+      reads = refl;
+      writes = refl;
+      wants_behind = refl;
+    })
+Ends-of_refusal words left AtEnd written faults wants out failed (error.OutOfMemory want) status is refused =
+    subst (λ (s : Status). Ends (IsAsked words left) (TakeCapture words) AtEnd written failed failed faults wants out out s) (sym is) (record {
+      stands = inl refl;
+      reads = refl;
+      writes = refl;
+      wants_behind = inl refl;
+    })
+
+-- what holds of a load holds where no capture is taken
+by_test : (makes : Bool) (P : Type 0) → (makes ≡ true → P) → (makes ≡ false → P) → P
+by_test true P load no_load = load refl
+by_test false P load no_load = no_load refl
+
+pub without-capture : (words : List (List ℕ)) (settings : RunSettings) → AreAccepted words settings → (P : Type 0)
+    → (makes_load settings.command ≡ true → P) → (TakeCapture words → ⊥) → P
+without-capture words settings accepted P load none =
+    by_test (makes_load settings.command) P load (λ no_load. absurd (none (record { settings = settings; accepted = accepted; takes = no_load })))

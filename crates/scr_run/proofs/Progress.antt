@@ -1,13 +1,15 @@
 -- How far a run has come in a capture: so many records were taken, and something holds of their rows.
-use Rattle.std.proofs.Common.{◌≡◌, ℕ, ◌+◌, List, [], ◌∷◌, ◌++◌, length, drop, Option, Some, Ok, IfSome, sym, ap, ◌∙◌, subst, arith}
+use Rattle.std.proofs.Common.{◌≡◌, ℕ, ◌+◌, ◌≤◌, List, [], ◌∷◌, ◌++◌, length, drop, Option, Some, Ok, Err, IfSome, sym, ap, ◌∙◌, subst, arith}
 use Rattle.std.proofs.lemmas.List.{length_push, length-map, map_push}
 use Rattle.scr_base.specs.declared.row.Row.{Row}
 use Rattle.scr_frame.specs.declared.parsed.Parsed.{Parsed}
 use Rattle.scr_frame.specs.Fields.{fields}
 use Rattle.scr_pcap.specs.declared.format.Format.{Format}
 use Rattle.scr_pcap.specs.Header.{header_of}
-use Rattle.scr_pcap.specs.Records.{Record, TakesRecord, TakesRecords}
-use Rattle.scr_pcap.proofs.Joining.{TakesRecords-none, TakesRecords-push}
+use Rattle.scr_pcap.specs.declared.error.CaptureError.{CaptureError}
+use Rattle.scr_pcap.specs.Records.{Record, RECORDS, IsFaultyRest, TakesRecord, TakesRecords}
+use Rattle.scr_pcap.specs.Reading.{IsReading}
+use Rattle.scr_pcap.proofs.Joining.{IsReading-at_fault, TakesRecords-none, TakesRecords-push}
 use Rattle.scr_run.specs.RunReport.{rows_of}
 
 -- as many rows as records
@@ -35,6 +37,14 @@ module _ (row_of : Parsed → ℕ → Row) where
     read = TakesRecords-none format now;
     holds = holds;
   }
+
+  -- a fault behind the records
+  pub HasTaken-fault : (Holds : List Row → Type 0) (format : Format) (taken : ℕ) (old now : Option (List ℕ)) (fault : CaptureError)
+      → HasTaken Holds format taken old now → taken ≤ RECORDS → IfSome now (λ rest. IsFaultyRest format taken rest fault)
+      → IfSome old (λ bytes. IsReading bytes (Err fault))
+  HasTaken-fault Holds format taken old now fault so_far few faulty =
+      IsReading-at_fault format old so_far.begun now so_far.records fault so_far.header so_far.read (omega (arith, so_far.count, few))
+      (subst (λ (n : ℕ). IfSome now (λ rest. IsFaultyRest format n rest fault)) (sym so_far.count) faulty)
 
   -- one record more; the frame's bytes and the reader's state are told by equations
   pub HasTaken-more : (Holds After : List Row → Type 0) (format format' : Format) (taken taken' : ℕ) (old middle now : Option (List ℕ))

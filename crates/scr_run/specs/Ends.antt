@@ -1,84 +1,145 @@
--- How a run over a capture ends, case by case: the answer, its cause, and what was written. Bytes that a stream doesn't
--- tell are not spoken of.
+-- How a run ends over what it is asked for, status by status: what was written, and how the counts stand. Bytes that a
+-- stream doesn't tell are not spoken of.
 use Rattle.std.specs.Prelude.{◌≡◌, ◌⊎◌, ℕ, List, Option, Result, Ok, Err, IfSome}
-use Rattle.std.specs.Io.KnownBytes.{Appends, IsAtEnd}
-use Rattle.scr_base.specs.Causes.{Rose}
-use Rattle.scr_base.specs.Streams.{AppendsPrefix}
+use Rattle.std.specs.Io.KnownBytes.{Appends}
+use Rattle.scr_base.specs.Causes.{counted}
+use Rattle.scr_base.specs.Streams.{AppendsPrefix, StopsWithin}
+use Rattle.scr_base.specs.declared.out_of_memory.OutOfMemory as memory
 use Rattle.scr_base.specs.declared.sink.SinkError.{SinkError}
 use Rattle.scr_base.specs.declared.sink.SinkError.TheVariants as sink
-use Rattle.scr_pcap.specs.Records.{Record}
 use Rattle.scr_pcap.specs.Reading.{IsReading}
 use Rattle.scr_pcap.specs.declared.error.CaptureError.{CaptureError}
-use Rattle.scr_pcap.specs.declared.error.CaptureError.TheVariants as capture
+use Rattle.scr_words.specs.declared.reading.WordsError.{WordsError}
+use Rattle.scr_words.specs.declared.reading.WordsError.TheVariants as words
 use Rattle.scr_run.specs.declared.status.Status.{Status}
 use Rattle.scr_run.specs.declared.status.Status.TheVariants.{Done, Words, Capture, ReadFault, WriteFault, OutOfMemory, TooMany}
-
--- the status of a fault of the capture
-abbrev pub status_of : CaptureError → Status
-status_of capture.ShortHeader = Capture capture.ShortHeader
-status_of capture.Magic = Capture capture.Magic
-status_of capture.Version = Capture capture.Version
-status_of capture.LinkType = Capture capture.LinkType
-status_of (capture.ShortRecord number) = Capture (capture.ShortRecord number)
-status_of (capture.LongRecord number length) = Capture (capture.LongRecord number length)
-status_of (capture.TooMany limit) = TooMany limit
-status_of capture.ReadFault = ReadFault
+use Rattle.scr_run.specs.Asked.{status_of}
 
 -- the status of a sink's error
 abbrev pub status_of_sink : SinkError → Status
 status_of_sink sink.Failed = WriteFault
-status_of_sink sink.OutOfMemory = OutOfMemory
+status_of_sink (sink.OutOfMemory want) = OutOfMemory want
+
+-- the status of words that aren't accepted
+abbrev pub status_of_words : WordsError → Status
+status_of_words (words.Refused fault) = Words fault
+status_of_words (words.OutOfMemory want) = OutOfMemory want
 
 -- the status of a run that was done, or stopped with another
 abbrev pub ended : Result Unit Status → Status
 ended (Ok done) = Done
 ended (Err status) = status
 
+abbrev pub IsOutOfMemory : Status → Type 0
+IsOutOfMemory status = (want : memory.OutOfMemory) × (status ≡ OutOfMemory want)
+
 -- this status, unless memory ran out
 abbrev pub IsUnlessOutOfMemory : Status → Status → Type 0
-IsUnlessOutOfMemory status wanted = (status ≡ wanted) ⊎ (status ≡ OutOfMemory)
+IsUnlessOutOfMemory status wanted = (status ≡ wanted) ⊎ IsOutOfMemory status
 
--- the capture whose bytes were left has this fault
-abbrev pub HasFault : Option (List ℕ) → CaptureError → Type 0
-HasFault left fault = IfSome left (λ bytes. IsReading bytes (Err fault))
+-- the words or the capture are refused
+abbrev pub IsRefusal : Status → Type 0
+IsRefusal (Words fault) = Unit {0}
+IsRefusal (Capture error) = Unit {0}
+IsRefusal (TooMany limit) = Unit {0}
+IsRefusal Done = ⊥
+IsRefusal ReadFault = ⊥
+IsRefusal WriteFault = ⊥
+IsRefusal (OutOfMemory want) = ⊥
 
--- why the reading of a capture stopped: `before` and `now` are the source's counts of failures
-abbrev pub StopsReading : Option (List ℕ) → (before now : ℕ) → Status → Type 0
-StopsReading left before now (Capture error) = (status_of error ≡ Capture error) × HasFault left error
-StopsReading left before now (TooMany limit) = (limit ≡ 1000000) × HasFault left (capture.TooMany limit)
-StopsReading left before now ReadFault = Rose before now
-StopsReading left before now OutOfMemory = Unit {0}
-StopsReading left before now Done = ⊥
-StopsReading left before now (Words fault) = ⊥
-StopsReading left before now WriteFault = ⊥
+-- how often reading has failed behind a run that ended so, from how often before it
+abbrev pub reads_behind : Status → ℕ → ℕ
+reads_behind ReadFault faults = counted faults
+reads_behind Done faults = faults
+reads_behind (Words fault) faults = faults
+reads_behind (Capture error) faults = faults
+reads_behind WriteFault faults = faults
+reads_behind (OutOfMemory want) faults = faults
+reads_behind (TooMany limit) faults = faults
 
--- `text` is the report of some records; a sink gained the whole report of the records that were left, or a front of it
-module _ (text : List Record → List ℕ) where
-  abbrev pub WritesReport : (left before now : Option (List ℕ)) → Type 0
-  WritesReport left before now = IfSome left (λ bytes. (records : List Record) × IsReading bytes (Ok records) × Appends before now (text records))
+-- how often writing has failed, the same way
+abbrev pub writes_behind : Status → ℕ → ℕ
+writes_behind WriteFault faults = counted faults
+writes_behind Done faults = faults
+writes_behind (Words fault) faults = faults
+writes_behind (Capture error) faults = faults
+writes_behind ReadFault faults = faults
+writes_behind (OutOfMemory want) faults = faults
+writes_behind (TooMany limit) faults = faults
 
-  abbrev pub WritesFront : (left before now : Option (List ℕ)) → Type 0
-  WritesFront left before now = IfSome left (λ bytes. (records : List Record) × IsReading bytes (Ok records) × AppendsPrefix before now (text records))
+-- how often the sink wanted memory in vain: once more at most, and only where memory ran out
+abbrev pub IsWantsBehind : Status → (before now : ℕ) → Type 0
+IsWantsBehind (OutOfMemory want) before now = (now ≡ before) ⊎ (now ≡ counted before)
+IsWantsBehind Done before now = now ≡ before
+IsWantsBehind (Words fault) before now = now ≡ before
+IsWantsBehind (Capture error) before now = now ≡ before
+IsWantsBehind ReadFault before now = now ≡ before
+IsWantsBehind WriteFault before now = now ≡ before
+IsWantsBehind (TooMany limit) before now = now ≡ before
 
-  -- how a run ended, over a source and a sink that are seen by their bytes and counts
-  module _ {S O : Type 0} (left : S → Option (List ℕ)) (faults : S → ℕ) (written : O → Option (List ℕ)) (write_faults : O → ℕ) where
-    abbrev pub Ends : (old new : S) (out_old out_new : O) → Status → Type 0
-    Ends old new out_old out_new Done = WritesReport (left old) (written out_old) (written out_new) × IsAtEnd (left new)
-    Ends old new out_old out_new WriteFault = Rose (write_faults out_old) (write_faults out_new) × WritesFront (left old) (written out_old) (written out_new)
-    Ends old new out_old out_new OutOfMemory = (out_new ≡ out_old) ⊎ WritesFront (left old) (written out_old) (written out_new)
-    Ends old new out_old out_new (Capture error) = StopsReading (left old) (faults old) (faults new) (Capture error) × (out_new ≡ out_old)
-    Ends old new out_old out_new (TooMany limit) = StopsReading (left old) (faults old) (faults new) (TooMany limit) × (out_new ≡ out_old)
-    Ends old new out_old out_new ReadFault = StopsReading (left old) (faults old) (faults new) ReadFault × (out_new ≡ out_old)
-    Ends old new out_old out_new (Words fault) = ⊥
+-- this text, and nothing else, is asked for
+abbrev pub IsText : List ℕ → Result (List ℕ) Status → Type 0
+IsText text asked = asked ≡ Ok text
 
--- how the writing of a text ended, behind which nothing is read
-module _ (text : List ℕ) {O : Type 0} (written : O → Option (List ℕ)) (write_faults : O → ℕ) where
-  abbrev pub EndsWriting : (out_old out_new : O) → Result Unit Status → Type 0
-  EndsWriting out_old out_new (Ok done) = Appends (written out_old) (written out_new) text
-  EndsWriting out_old out_new (Err WriteFault) = Rose (write_faults out_old) (write_faults out_new) × AppendsPrefix (written out_old) (written out_new) text
-  EndsWriting out_old out_new (Err OutOfMemory) = (out_new ≡ out_old) ⊎ AppendsPrefix (written out_old) (written out_new) text
-  EndsWriting out_old out_new (Err Done) = ⊥
-  EndsWriting out_old out_new (Err (Words fault)) = ⊥
-  EndsWriting out_old out_new (Err (Capture error)) = ⊥
-  EndsWriting out_old out_new (Err ReadFault) = ⊥
-  EndsWriting out_old out_new (Err (TooMany limit)) = ⊥
+-- A run is seen by what it is asked for; by two facts, that it takes a capture and that this was read to its end; and by
+-- the bytes of the sink before it and now.
+module _ (Asked : Result (List ℕ) Status → Type 0) (AtEnd : Type 0) (before now : Option (List ℕ)) where
+  -- the sink gained the text that is asked for, whole and alone
+  pub record Writes : Type 0 where
+    pub text : List ℕ
+    pub asked : Asked (Ok text)
+    pub gained : Appends before now text
+    pub end : AtEnd
+
+  -- it gained a front of it, and not all
+  pub record StopsWriting : Type 0 where
+    pub text : List ℕ
+    pub asked : Asked (Ok text)
+    pub front : StopsWithin before now text
+    pub end : AtEnd
+
+  -- it gained a front of it, maybe all
+  pub record BeginsWriting : Type 0 where
+    pub text : List ℕ
+    pub asked : Asked (Ok text)
+    pub front : AppendsPrefix before now text
+    pub end : AtEnd
+
+module _ (Asked : Result (List ℕ) Status → Type 0) (Takes AtEnd : Type 0) {O : Type 0} (written : O → Option (List ℕ)) where
+  -- what stands behind a run that ended so
+  abbrev pub Stands : (old new : O) → Status → Type 0
+  Stands old new Done = Writes Asked AtEnd (written old) (written new)
+  Stands old new (Words fault) = Asked (Err (Words fault)) × (new ≡ old)
+  Stands old new (Capture error) = Asked (Err (Capture error)) × (new ≡ old)
+  Stands old new (TooMany limit) = Asked (Err (TooMany limit)) × (new ≡ old)
+  Stands old new ReadFault = Takes × (new ≡ old)
+  Stands old new WriteFault = StopsWriting Asked AtEnd (written old) (written new)
+  Stands old new (OutOfMemory want) = (new ≡ old) ⊎ StopsWriting Asked AtEnd (written old) (written new)
+
+  -- how a run ended: `failed_before` and `failed` are the counts of the capture's failures
+  pub record Ends (failed_before failed : ℕ) (faults wants : O → ℕ) (old new : O) (status : Status) : Type 0 where
+    pub stands : Stands old new status
+    pub reads : failed ≡ reads_behind status failed_before
+    pub writes : faults new ≡ writes_behind status (faults old)
+    pub wants_behind : IsWantsBehind status (wants old) (wants new)
+
+-- the capture whose bytes were left has a fault of this status
+pub record HasFault (left : Option (List ℕ)) (status : Status) : Type 0 where
+  pub fault : CaptureError
+  pub read : IfSome left (λ bytes. IsReading bytes (Err fault))
+  pub told : status ≡ status_of fault
+
+-- why the reading of a capture stops
+abbrev pub IsStop : Option (List ℕ) → Status → Type 0
+IsStop left ReadFault = Unit {0}
+IsStop left (OutOfMemory want) = Unit {0}
+IsStop left (Capture error) = HasFault left (Capture error)
+IsStop left (TooMany limit) = HasFault left (TooMany limit)
+IsStop left Done = ⊥
+IsStop left (Words fault) = ⊥
+IsStop left WriteFault = ⊥
+
+-- the reading of a capture stopped so
+pub record StopsReading (left : Option (List ℕ)) (failed_before failed : ℕ) (status : Status) : Type 0 where
+  pub why : IsStop left status
+  pub reads : failed ≡ reads_behind status failed_before

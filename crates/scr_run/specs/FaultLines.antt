@@ -1,10 +1,20 @@
 -- What a run that ends so writes to standard error, and its exit code.
-use Rattle.std.specs.Prelude.{ℕ, List, [], ◌++◌, codes, decimal}
+use Rattle.std.specs.Prelude.{ℕ, List, [], ◌++◌, Option, Result, codes, decimal}
+use Rattle.scr_base.specs.Causes.{CountsError}
+use Rattle.scr_base.specs.Streams.{WritesText}
+use Rattle.scr_base.specs.declared.sink.SinkError.{SinkError}
 use Rattle.scr_pcap.specs.declared.error.CaptureError.{CaptureError}
 use Rattle.scr_pcap.specs.declared.error.CaptureError.TheVariants as capture
 use Rattle.scr_run.specs.declared.status.Status.{Status}
 use Rattle.scr_run.specs.declared.status.Status.TheVariants.{Done, Words, Capture, ReadFault, WriteFault, OutOfMemory, TooMany}
 use Rattle.scr_words.specs.WordLines.{word_line}
+
+-- the code and the line of a run that had no memory
+abbrev pub want_code : ℕ
+want_code = 5
+
+abbrev pub want_line : List ℕ
+want_line = codes "scr: out of memory\n"
 
 abbrev pub code_of : Status → ℕ
 code_of Done = 0
@@ -12,7 +22,7 @@ code_of (Words fault) = 1
 code_of (Capture error) = 2
 code_of ReadFault = 3
 code_of WriteFault = 4
-code_of OutOfMemory = 5
+code_of (OutOfMemory want) = want_code
 code_of (TooMany limit) = 6
 
 abbrev pub short_record_line : ℕ → List ℕ
@@ -43,5 +53,11 @@ fault_line (Words fault) = word_line fault
 fault_line (Capture error) = capture_line error
 fault_line ReadFault = codes "scr: read fault\n"
 fault_line WriteFault = codes "scr: write fault\n"
-fault_line OutOfMemory = codes "scr: out of memory\n"
+fault_line (OutOfMemory want) = want_line
 fault_line (TooMany limit) = too_many_line limit
+
+-- a line was written, or an error of the sink stopped its writing: some answer tells what the sink gained, and its counts
+pub record IsTold {O : Type 0} (written : O → Option (List ℕ)) (faults wants : O → ℕ) (old new : O) (line : List ℕ) : Type 0 where
+  pub answer : Result (Unit {0}) SinkError
+  pub text : WritesText (written old) (written new) answer line
+  pub counts : CountsError faults wants old new answer

@@ -1,15 +1,14 @@
-ghost use Rattle.std.specs.Prelude.{true, false, ◌≡◌, ◌≤◌, ◌⊎◌, ℕ, List};
+ghost use Rattle.std.specs.Prelude.{true, false, ◌≡◌};
 ghost use Rattle.std.specs.Io.KnownBytes.{IsAtEnd};
-ghost use Rattle.scr_base.specs.Causes.{Rose};
-ghost use Rattle.scr_pcap.specs.Generated.{generated};
-ghost use Rattle.scr_run.specs.Rules.{ruled_by, rules_of};
-ghost use Rattle.scr_run.specs.RunReport.{shaped_text, text_by};
-ghost use Rattle.scr_run.specs.Answers.{LoadEnds, EndsBy, text_for};
+ghost use Rattle.scr_pcap.specs.Generated.{generated_records};
 ghost use Rattle.scr_words.specs.Operands.{makes_load};
-ghost use Rattle.scr_run.specs.Ends.{IsUnlessOutOfMemory};
+ghost use Rattle.scr_run.specs.Rules.{ruled_by};
+ghost use Rattle.scr_run.specs.RunReport.{shaped_text, text_by};
+ghost use Rattle.scr_run.specs.Asked.{IsByCommand, IsBySettings};
+ghost use Rattle.scr_run.specs.Ends.{Ends, IsText, ended};
 
-use crate::engine::run_engine;
-use crate::plain::plain_run;
+use crate::engine::run_cores;
+use crate::plain::run_whole;
 use crate::status::Status;
 use scr_base::{Sink, Source, SureSource};
 use scr_bucket::Bucket;
@@ -28,15 +27,10 @@ pub(crate) fn run_chosen<S: Source, O: Sink>(
     chosen: RunSettings,
     capture: &mut S,
     out: &mut O,
-) -> Status
-    ensures ends { EndsBy (text_for chosen) (generated chosen.start chosen.frames chosen.hosts) S.left S.faults O.written O.faults
-        chosen.command capture.old capture.new out.old out.new result }
-    ensures complete { makes_load chosen.command ≡ true → (Rose (O.faults out.old) (O.faults out.new) → ⊥) → IsUnlessOutOfMemory result Status.Done }
-    ensures late { makes_load chosen.command ≡ false → (out.new ≡ out.old) ⊎ IsAtEnd (S.left capture.new) }
-    ensures wanting { result ≡ Status.OutOfMemory → (out.new ≡ out.old) ⊎ Rose (O.wants out.old) (O.wants out.new) }
-    ensures later_capture { S.faults capture.old ≤ S.faults capture.new }
-    ensures later_out { O.faults out.old ≤ O.faults out.new }
-    ensures later_out_wants { O.wants out.old ≤ O.wants out.new }
+) -> Result<(), Status>
+    ensures ends { Ends (IsBySettings chosen (S.left capture.old)) (makes_load chosen.command ≡ false) (makes_load chosen.command ≡ false → IsAtEnd (S.left capture.new))
+        O.written (S.faults capture.old) (S.faults capture.new) O.faults O.wants out.old out.new (ended result) }
+    ensures unread { makes_load chosen.command ≡ true → capture.new ≡ capture.old }
 {
     match chosen.program {
         ProgramSettings::Ddos(settings) => {
@@ -64,19 +58,17 @@ fn run_command<P: Program, S: Source, O: Sink>(
     chosen: RunSettings,
     capture: &mut S,
     out: &mut O,
-) -> Status
-    ensures ends { EndsBy (text_by (ruled_by (P.row_of settings.now) (P.verdict_after settings.now) (P.count_after settings.now) P.verdict_names) chosen.command chosen.shape)
-        (generated chosen.start chosen.frames chosen.hosts) S.left S.faults O.written O.faults chosen.command capture.old capture.new out.old out.new result }
-    ensures complete { makes_load chosen.command ≡ true → (Rose (O.faults out.old) (O.faults out.new) → ⊥) → IsUnlessOutOfMemory result Status.Done }
-    ensures late { makes_load chosen.command ≡ false → (out.new ≡ out.old) ⊎ IsAtEnd (S.left capture.new) }
-    ensures wanting { result ≡ Status.OutOfMemory → (out.new ≡ out.old) ⊎ Rose (O.wants out.old) (O.wants out.new) }
-    ensures later_capture { S.faults capture.old ≤ S.faults capture.new }
-    ensures later_out { O.faults out.old ≤ O.faults out.new }
-    ensures later_out_wants { O.wants out.old ≤ O.wants out.new }
+) -> Result<(), Status>
+    ensures ends { Ends
+        (IsByCommand (text_by (ruled_by (P.row_of settings.now) (P.verdict_after settings.now) (P.count_after settings.now) P.verdict_names) chosen.command chosen.shape)
+        (generated_records chosen.start chosen.frames chosen.hosts) (S.left capture.old) chosen.command)
+        (makes_load chosen.command ≡ false) (makes_load chosen.command ≡ false → IsAtEnd (S.left capture.new))
+        O.written (S.faults capture.old) (S.faults capture.new) O.faults O.wants out.old out.new (ended result) }
+    ensures unread { makes_load chosen.command ≡ true → capture.new ≡ capture.old }
 {
     match chosen.command {
-        Command::Plain => plain_run::<P, S, O>(alloc, settings, capture, out),
-        Command::Run => run_engine::<P, S, O>(alloc, settings, chosen.shape, true, capture, out),
+        Command::Plain => run_whole::<P, S, O>(alloc, settings, capture, out),
+        Command::Run => run_cores::<P, S, O>(alloc, settings, chosen.shape, true, capture, out),
         Command::Load => run_load::<P, O>(alloc, settings, chosen, out),
     }
 }
@@ -87,17 +79,13 @@ fn run_load<P: Program, O: Sink>(
     settings: &P::Settings,
     chosen: RunSettings,
     out: &mut O,
-) -> Status
-    ensures ends { LoadEnds (shaped_text (ruled_by (P.row_of settings.now) (P.verdict_after settings.now) (P.count_after settings.now) P.verdict_names) chosen.shape false)
-        (generated chosen.start chosen.frames chosen.hosts) O.written O.faults out.old out.new result }
-    ensures complete { (Rose (O.faults out.old) (O.faults out.new) → ⊥) → IsUnlessOutOfMemory result Status.Done }
-    ensures wanting { result ≡ Status.OutOfMemory → (out.new ≡ out.old) ⊎ Rose (O.wants out.old) (O.wants out.new) }
-    ensures later { O.faults out.old ≤ O.faults out.new }
-    ensures later_wants { O.wants out.old ≤ O.wants out.new }
+) -> Result<(), Status>
+    ensures ends { Ends
+        (IsText (shaped_text (ruled_by (P.row_of settings.now) (P.verdict_after settings.now) (P.count_after settings.now) P.verdict_names) chosen.shape false
+        (generated_records chosen.start chosen.frames chosen.hosts)))
+        ⊥ (Unit {0}) O.written 0 0 O.faults O.wants out.old out.new (ended result) }
 {
-    let Ok(bytes) = generate(alloc, chosen.start, chosen.frames, chosen.hosts) else {
-        return Status::OutOfMemory;
-    };
+    let bytes = generate(alloc, chosen.start, chosen.frames, chosen.hosts)?;
     let mut made = SureSource::new(bytes, usize::MAX);
-    run_engine::<P, SureSource, O>(alloc, settings, chosen.shape, false, &mut made, out)
+    run_cores::<P, SureSource, O>(alloc, settings, chosen.shape, false, &mut made, out)
 }

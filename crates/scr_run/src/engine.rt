@@ -1,18 +1,22 @@
-ghost use Rattle.std.specs.Prelude.{◌≡◌, ◌≤◌, ◌⊎◌, ◌++◌, ◌∷◌, [], ℕ, List, length, map, Some, Ok, Err, IfOk, IfErr, IfSome, OnOk};
+ghost use Rattle.std.specs.Prelude.{◌≡◌, ◌≢◌, ◌≤◌, ◌⊎◌, ◌++◌, ◌∷◌, [], ℕ, List, length, map, Some, Ok, Err, IfOk, IfErr, IfSome, OnOk};
 ghost use Rattle.std.specs.Io.KnownBytes.{IsAtEnd};
-ghost use Rattle.scr_base.specs.Causes.{Rose};
+ghost use Rattle.scr_base.specs.Causes.{counted};
 ghost use Rattle.scr_frame.specs.Fields.{fields};
-ghost use Rattle.scr_pcap.specs.Records.{Record};
+ghost use Rattle.scr_pcap.specs.Records.{Record, RECORDS, CAPTURED};
 ghost use Rattle.scr_pcap.specs.Reading.{IsReading};
 ghost use Rattle.scr_pcap.specs.declared.error.CaptureError.{CaptureError};
+ghost use Rattle.scr_words.specs.declared.word_fault.WordFault.{WordFault};
 ghost use Rattle.std.specs.List.{range_with_len};
 ghost use Rattle.scr_plan.specs.Counts.{delivered_count, kept_count, plan_counts};
 ghost use Rattle.scr_plan.specs.Plan.{frame_count};
+ghost use Rattle.scr_report.specs.Outcome.{report_of};
 ghost use Rattle.scr_run.specs.Rules.{ruled_by};
 ghost use Rattle.scr_run.specs.RunReport.{shaped_text, rows_of};
-ghost use Rattle.scr_run.specs.Ends.{Ends, ended, StopsReading, status_of, IsUnlessOutOfMemory};
+ghost use Rattle.scr_run.specs.Asked.{IsOfCapture, status_of};
+ghost use Rattle.scr_run.specs.Ends.{Ends, ended, Writes, StopsWriting, BeginsWriting, HasFault, StopsReading, IsRefusal, IsOutOfMemory, IsUnlessOutOfMemory, IsWantsBehind, reads_behind, writes_behind};
 
 use crate::found::write_found;
+use crate::names::totals_of;
 use crate::status::Status;
 use scr_base::{OutOfMemory, Row, Sink, Source};
 use scr_frame::parse;
@@ -36,32 +40,51 @@ pub fn run_engine<P: Program, S: Source, O: Sink>(
     capture: &mut S,
     out: &mut O,
 ) -> Status
-    ensures ends { Ends (shaped_text (ruled_by (P.row_of settings.now) (P.verdict_after settings.now) (P.count_after settings.now) P.verdict_names) shape with_verdicts)
-        S.left S.faults O.written O.faults capture.old capture.new out.old out.new result }
+    // At every exit `out` gained nothing, or a front of the report, and that behind the end of the capture.
+    ensures front { (out.new ≡ out.old) ⊎ BeginsWriting
+        (IsOfCapture (shaped_text (ruled_by (P.row_of settings.now) (P.verdict_after settings.now) (P.count_after settings.now) P.verdict_names) shape with_verdicts) (S.left capture.old))
+        (IsAtEnd (S.left capture.new)) (O.written out.old) (O.written out.new) }
+
+    // Done: it gained the report, whole and alone.
+    ensures done { result ≡ Status.Done → Writes
+        (IsOfCapture (shaped_text (ruled_by (P.row_of settings.now) (P.verdict_after settings.now) (P.count_after settings.now) P.verdict_names) shape with_verdicts) (S.left capture.old))
+        (IsAtEnd (S.left capture.new)) (O.written out.old) (O.written out.new) }
+
+    // A write failed: the report isn't whole.
+    ensures write_fault { result ≡ Status.WriteFault → StopsWriting
+        (IsOfCapture (shaped_text (ruled_by (P.row_of settings.now) (P.verdict_after settings.now) (P.count_after settings.now) P.verdict_names) shape with_verdicts) (S.left capture.old))
+        (IsAtEnd (S.left capture.new)) (O.written out.old) (O.written out.new) }
+
+    // Memory ran out: neither is it then.
+    ensures out_of_memory { IsOutOfMemory result → (out.new ≡ out.old) ⊎ StopsWriting
+        (IsOfCapture (shaped_text (ruled_by (P.row_of settings.now) (P.verdict_after settings.now) (P.count_after settings.now) P.verdict_names) shape with_verdicts) (S.left capture.old))
+        (IsAtEnd (S.left capture.new)) (O.written out.old) (O.written out.new) }
+
+    // A fault of the capture is answered only where the capture has it. No answer speaks of words.
+    ensures refused { IsRefusal result → HasFault (S.left capture.old) result × (out.new ≡ out.old) }
+    ensures no_words { (fault : WordFault) → result ≢ Status.Words fault }
+
+    ensures read_fault { result ≡ Status.ReadFault → out.new ≡ out.old }
 
     // A malformed capture is answered as such where no read failed.
     ensures malformed { (bytes : List ℕ) (error : CaptureError) → S.left capture.old ≡ Some bytes → IsReading bytes (Err error)
-        → (Rose (S.faults capture.old) (S.faults capture.new) → ⊥) → IsUnlessOutOfMemory result (status_of error) }
+        → S.faults capture.new ≢ counted (S.faults capture.old) → IsUnlessOutOfMemory result (status_of error) }
 
     // Over a valid capture, with no failure of a stream, the report is written.
     ensures complete { (bytes : List ℕ) (records : List Record) → S.left capture.old ≡ Some bytes → IsReading bytes (Ok records)
-        → (Rose (S.faults capture.old) (S.faults capture.new) → ⊥) → (Rose (O.faults out.old) (O.faults out.new) → ⊥)
+        → S.faults capture.new ≢ counted (S.faults capture.old) → O.faults out.new ≢ counted (O.faults out.old)
         → IsUnlessOutOfMemory result Status.Done }
 
-    // Nothing is written before the capture was read to its end. Where memory ran out later, `out` wanted it.
-    ensures late { (out.new ≡ out.old) ⊎ IsAtEnd (S.left capture.new) }
-    ensures wanting { result ≡ Status.OutOfMemory → (out.new ≡ out.old) ⊎ Rose (O.wants out.old) (O.wants out.new) }
-    ensures later_capture { S.faults capture.old ≤ S.faults capture.new }
-    ensures later_out { O.faults out.old ≤ O.faults out.new }
-    ensures later_out_wants { O.wants out.old ≤ O.wants out.new }
+    // The counts tell how often a stream failed: once where the status says so, else never.
+    ensures reads { S.faults capture.new ≡ reads_behind result (S.faults capture.old) }
+    ensures writes { O.faults out.new ≡ writes_behind result (O.faults out.old) }
+    ensures wants { IsWantsBehind result (O.wants out.old) (O.wants out.new) }
 {
-    match run_cores::<P, S, O>(alloc, settings, shape, with_verdicts, capture, out) {
-        Ok(()) => Status::Done,
-        Err(status) => status,
-    }
+    Status::of(run_cores::<P, S, O>(alloc, settings, shape, with_verdicts, capture, out))
 }
 
-fn run_cores<P: Program, S: Source, O: Sink>(
+/// The same, as how it ended tells it.
+pub(crate) fn run_cores<P: Program, S: Source, O: Sink>(
     alloc: Global,
     settings: &P::Settings,
     shape: Shape,
@@ -69,47 +92,45 @@ fn run_cores<P: Program, S: Source, O: Sink>(
     capture: &mut S,
     out: &mut O,
 ) -> Result<(), Status>
-    ensures ends { Ends (shaped_text (ruled_by (P.row_of settings.now) (P.verdict_after settings.now) (P.count_after settings.now) P.verdict_names) shape with_verdicts)
-        S.left S.faults O.written O.faults capture.old capture.new out.old out.new (ended result) }
-    ensures late { (out.new ≡ out.old) ⊎ IsAtEnd (S.left capture.new) }
-    ensures wanting { result ≡ Err Status.OutOfMemory → (out.new ≡ out.old) ⊎ Rose (O.wants out.old) (O.wants out.new) }
-    ensures later_capture { S.faults capture.old ≤ S.faults capture.new }
-    ensures later_out { O.faults out.old ≤ O.faults out.new }
-    ensures later_out_wants { O.wants out.old ≤ O.wants out.new }
+    ensures ends { Ends (IsOfCapture (shaped_text (ruled_by (P.row_of settings.now) (P.verdict_after settings.now) (P.count_after settings.now) P.verdict_names) shape with_verdicts) (S.left capture.old))
+        (Unit {0}) (IsAtEnd (S.left capture.new)) O.written (S.faults capture.old) (S.faults capture.new) O.faults O.wants out.old out.new (ended result) }
 {
     let rows = rows_read::<P, S>(alloc, settings, capture)?;
     let plan = RunPlan::make(rows, shape.cores, shape.history, shape.drops);
     let gathered = run_phases::<P>(alloc, settings, &plan)?;
-    write_found::<P, O>(alloc, report_on(alloc, &plan, gathered), with_verdicts, out)
+    let report = report_on::<P>(alloc, &plan, gathered)?;
+    write_found::<P, O>(alloc, &report, with_verdicts, out)
 }
 
-// What the cores gathered, as a report whose totals are still to be counted.
-fn report_on(alloc: Global, plan: &RunPlan, gathered: Gathered) -> Report
+// What the cores gathered, as a report.
+fn report_on<P: Program>(
+    alloc: Global,
+    plan: &RunPlan,
+    gathered: Gathered,
+) -> Result<Report, OutOfMemory>
     requires cores { gathered.cores ≡ map (plan_counts plan.now) (range_with_len 0 plan.now.cores) }
     requires delivered { length gathered.verdicts ≡ delivered_count plan.now }
-    ensures verdicts { result.verdicts ≡ gathered.verdicts }
-    ensures frames { result.frames ≡ frame_count plan.now }
-    ensures delivered { result.delivered ≡ delivered_count plan.now }
-    ensures kept { result.kept ≡ kept_count plan.now }
-    ensures cores { result.cores ≡ gathered.cores }
-    ensures flows { result.flows ≡ gathered.flows }
+    ensures { IfOk result (λ report. report ≡ report_of P.verdict_names gathered.verdicts
+        (frame_count plan.now)
+        (delivered_count plan.now) (kept_count plan.now)
+        gathered.cores gathered.flows) }
 {
-    let frames = plan.rows().len() as u32;
+    let totals = totals_of(alloc, P::names(), &gathered.verdicts)?;
     let kept = kept_of(plan, &gathered.cores);
     let Gathered {
         verdicts,
         cores,
         flows,
     } = gathered;
-    Report {
+    Ok(Report {
+        frames: plan.rows().len() as u32,
         delivered: verdicts.len() as u32,
         verdicts,
-        frames,
         kept,
         cores,
         flows,
-        totals: Vec::new(alloc),
-    }
+        totals,
+    })
 }
 
 // How many packets are kept: all but those that a core skipped.
@@ -127,12 +148,12 @@ fn rows_read<P: Program, S: Source>(
     settings: &P::Settings,
     capture: &mut S,
 ) -> Result<Vec<Row>, Status>
-    ensures rows { IfOk result (λ rows. IfSome (S.left capture.old) (λ bytes. (records : List Record)
-        × IsReading bytes (Ok records) × (rows.items ≡ rows_of (P.row_of settings.now) records))) }
-    ensures few { IfOk result (λ rows. length rows.items ≤ 1000000) }
+    ensures rows { IfOk result (λ rows. (records : List Record) × IfSome (S.left capture.old) (λ bytes. IsReading bytes (Ok records))
+        × (rows.items ≡ rows_of (P.row_of settings.now) records)) }
+    ensures few { IfOk result (λ rows. length rows.items ≤ RECORDS) }
     ensures end { OnOk result (IsAtEnd (S.left capture.new)) }
+    ensures calm { OnOk result (S.faults capture.new ≡ S.faults capture.old) }
     ensures stop { IfErr result (StopsReading (S.left capture.old) (S.faults capture.old) (S.faults capture.new)) }
-    ensures later { S.faults capture.old ≤ S.faults capture.new }
 {
     let mut frame = FrameBuf::make(alloc)?;
     let mut reader = Reader::begin(capture)?;
@@ -151,7 +172,7 @@ fn put_row<P: Program>(
     frame: &[u8],
     time: u64,
 ) -> Result<(), OutOfMemory>
-    requires { length frame.now ≤ 262144 }
+    requires { length frame.now ≤ CAPTURED }
     ensures { OnOk result (rows.new.items ≡ rows.old.items ++ P.row_of settings.now (fields frame.now) time ∷ []) }
 {
     rows.push(P::extract(settings, &parse(frame), time))?;

@@ -1,19 +1,34 @@
 ghost use Rattle.std.specs.Prelude.{◌≡◌};
-ghost use Rattle.scr_base.specs.Causes.{HasSinkCause};
+ghost use Rattle.scr_base.specs.Causes.{CountsError};
 ghost use Rattle.scr_base.specs.Streams.{WritesText, BatchesText};
-ghost use Rattle.scr_run.specs.FaultLines.{short_record_line, long_record_line, capture_line, too_many_line, fault_line};
+ghost use Rattle.scr_run.specs.FaultLines.{short_record_line, long_record_line, capture_line, too_many_line, fault_line, want_code, want_line, IsTold};
 
-use crate::status::Status;
-use scr_base::{Batch, Piece, Sink, SinkError};
+use crate::status::{Status, WANT_CODE};
+use scr_base::{Batch, Piece, Sink, SinkError, put_all};
 use scr_pcap::CaptureError;
 use scr_words::put_word_line;
 
-/// Writes the line of a status, which tells how a run ended; one that is done has none. At `Err` a front of the line is
-/// written: the sink failed, or it wanted memory.
+const WANT_LINE: &[u8] = b"scr: out of memory\n";
+
+/// What is told of a program that had no memory for its words: the line of a run out of memory, and its code.
+pub fn tell_want<E: Sink>(err: &mut E) -> u8
+    ensures code { result ≡ want_code }
+    ensures line { IsTold E.written E.faults E.wants err.old err.new want_line }
+{
+    let _ = put_all(err, WANT_LINE);
+    WANT_CODE
+}
+
+/// Writes the line of a status, which tells how a run ended; one that is done has none, and then the sink isn't called. At
+/// `Err` a front of the line is written: the sink failed, or it wanted memory.
 pub fn write_fault_line<E: Sink>(err: &mut E, status: &Status) -> Result<(), SinkError>
     ensures text { WritesText (E.written err.old) (E.written err.new) result (fault_line status.now) }
-    ensures cause { HasSinkCause E.faults E.wants err.old err.new result }
+    ensures counts { CountsError E.faults E.wants err.old err.new result }
+    ensures silent { status.now ≡ Status.Done → err.new ≡ err.old }
 {
+    if matches!(status, Status::Done) {
+        return Ok(());
+    }
     let mut batch = Batch::new();
     put_fault_line(&mut batch, err, status)?;
     batch.finish(err)
@@ -21,7 +36,7 @@ pub fn write_fault_line<E: Sink>(err: &mut E, status: &Status) -> Result<(), Sin
 
 fn put_fault_line<E: Sink>(batch: &mut Batch, err: &mut E, status: &Status) -> Result<(), SinkError>
     ensures text { BatchesText (E.written err.old) (E.written err.new) batch.old batch.new result (fault_line status.now) }
-    ensures cause { HasSinkCause E.faults E.wants err.old err.new result }
+    ensures counts { CountsError E.faults E.wants err.old err.new result }
 {
     match status {
         Status::Done => batch.put(err, b""),
@@ -29,7 +44,7 @@ fn put_fault_line<E: Sink>(batch: &mut Batch, err: &mut E, status: &Status) -> R
         Status::Capture(error) => put_capture_line(batch, err, error),
         Status::ReadFault => batch.put(err, b"scr: read fault\n"),
         Status::WriteFault => batch.put(err, b"scr: write fault\n"),
-        Status::OutOfMemory => batch.put(err, b"scr: out of memory\n"),
+        Status::OutOfMemory(_) => batch.put(err, WANT_LINE),
         Status::TooMany { limit } => put_too_many_line(batch, err, *limit),
     }
 }
@@ -40,7 +55,7 @@ fn put_capture_line<E: Sink>(
     error: &CaptureError,
 ) -> Result<(), SinkError>
     ensures text { BatchesText (E.written err.old) (E.written err.new) batch.old batch.new result (capture_line error.now) }
-    ensures cause { HasSinkCause E.faults E.wants err.old err.new result }
+    ensures counts { CountsError E.faults E.wants err.old err.new result }
 {
     match error {
         CaptureError::ShortHeader => batch.put(err, b"scr: header: ShortHeader\n"),
@@ -58,7 +73,7 @@ fn put_capture_line<E: Sink>(
 
 fn put_short_record<E: Sink>(batch: &mut Batch, err: &mut E, number: u32) -> Result<(), SinkError>
     ensures text { BatchesText (E.written err.old) (E.written err.new) batch.old batch.new result (short_record_line number) }
-    ensures cause { HasSinkCause E.faults E.wants err.old err.new result }
+    ensures counts { CountsError E.faults E.wants err.old err.new result }
 {
     batch.put_pieces(
         err,
@@ -77,7 +92,7 @@ fn put_long_record<E: Sink>(
     length: u32,
 ) -> Result<(), SinkError>
     ensures text { BatchesText (E.written err.old) (E.written err.new) batch.old batch.new result (long_record_line number length) }
-    ensures cause { HasSinkCause E.faults E.wants err.old err.new result }
+    ensures counts { CountsError E.faults E.wants err.old err.new result }
 {
     batch.put_pieces(
         err,
@@ -93,7 +108,7 @@ fn put_long_record<E: Sink>(
 
 fn put_too_many_line<E: Sink>(batch: &mut Batch, err: &mut E, limit: u32) -> Result<(), SinkError>
     ensures text { BatchesText (E.written err.old) (E.written err.new) batch.old batch.new result (too_many_line limit) }
-    ensures cause { HasSinkCause E.faults E.wants err.old err.new result }
+    ensures counts { CountsError E.faults E.wants err.old err.new result }
 {
     batch.put_pieces(
         err,

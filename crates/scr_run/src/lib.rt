@@ -8,18 +8,18 @@
 //! **What a contract sees.** Words, captures, reports and lines as lists of bytes, and streams as scr_base has them, by
 //! what is left or written and by counts of failures and wants. A program is seen by its row of a frame, its verdict of a
 //! row after others, its count of entries and its names (specs/Rules.antt). The report of a run is that of the one-core
-//! answer over a plan of its rows, cores, history and drop list (specs/RunReport.antt); how a run ends is said case by case
-//! of its status (specs/Ends.antt, specs/Answers.antt). The words and their settings are those of scr_words.
+//! answer over a plan of its rows, cores, history and drop list (specs/RunReport.antt). What words and a capture ask for,
+//! a text or the status that refuses, is specs/Asked.antt, and how a run ends over it specs/Ends.antt.
 //!
-//! **What is proved.** A run that is done has read the whole capture and written exactly the report that the words ask
-//! for. What stands at any other end is a front of that report, and nothing before the capture was read to its end. Words
-//! are refused exactly by their definition, and then nothing is read. A fault of the capture is answered only where the
-//! capture has it, and always where memory sufficed and no read failed; the failure of a stream only where its count
-//! rose. A load reads no capture. The line on the second sink is that of the status, or a front of it.
+//! **What is proved.** A run that is done has read the whole capture and written exactly the text that is asked for. What
+//! stands at any other end is a front of it, and nothing before the capture was read to its end. Words and captures are
+//! refused exactly where that is asked for, where memory sufficed and no read failed. The failure of a stream is answered
+//! only where its count rose, by one, so that no failed read or write is tried again. A load reads no capture. The line on
+//! the second sink is that of the status, or a front of it, and none is written where the run is done.
 //!
 //! **What is only tested.** That a run is done where there is memory, since no contract sees how much there is: a body
-//! that always lacks it would be proved too. That a failed read or write is answered and not tried again. That settings,
-//! reports and lines, written by hand, are what the definitions say.
+//! that asks for memory that it doesn't need, and lacks it, would be proved too. That settings, reports and lines, written
+//! by hand, are what the definitions say.
 //!
 //! **Limits.** A capture of a million frames, whose rows are held in memory. The cores go one after another, whatever
 //! `threads` and `ring` say. Where a stream doesn't tell its bytes, as the standard streams don't, contracts speak of its
@@ -30,6 +30,7 @@ mod commands;
 mod engine;
 mod fault_line;
 mod found;
+mod laws;
 mod names;
 mod plain;
 mod status;
@@ -38,7 +39,8 @@ mod tests;
 mod top;
 
 pub use engine::run_engine;
-pub use fault_line::write_fault_line;
+pub use fault_line::{tell_want, write_fault_line};
+pub use laws::plain_without_drops;
 pub use names::names_of;
 pub use plain::plain_run;
 pub use scr_words::{

@@ -1,9 +1,13 @@
 ghost use Rattle.std.specs.Prelude.{◌≡◌};
+ghost use Rattle.scr_run.specs.Ends.{ended};
 ghost use Rattle.scr_run.specs.FaultLines.{code_of};
 
 use scr_base::{OutOfMemory, SinkError};
 use scr_pcap::CaptureError;
-use scr_words::WordFault;
+use scr_words::{WordFault, WordsError};
+
+/// The exit code of a run that had no memory.
+pub(crate) const WANT_CODE: u8 = 5;
 
 /// How a run ended. Each status but the first has a line, which [`write_fault_line`](crate::write_fault_line) writes.
 #[derive(Clone, Copy, Debug, PartialEq, Eq)]
@@ -19,12 +23,22 @@ pub enum Status {
     /// Writing the report failed. A front of it is written.
     WriteFault,
     /// There was no memory. Nothing is written, or a front of the report.
-    OutOfMemory,
+    OutOfMemory(OutOfMemory),
     /// The capture has more records than this, the most that are taken. Nothing is written.
     TooMany { limit: u32 },
 }
 
 impl Status {
+    /// How a run ended that answered this.
+    pub(crate) fn of(answer: Result<(), Status>) -> Self
+        ensures { result ≡ ended answer }
+    {
+        match answer {
+            Ok(()) => Status::Done,
+            Err(status) => status,
+        }
+    }
+
     /// The exit code of a program that ends so: 0 where it is done, else 1 to 6.
     pub fn code(&self) -> u8
         ensures { result ≡ code_of self.now }
@@ -35,7 +49,7 @@ impl Status {
             Status::Capture(_) => 2,
             Status::ReadFault => 3,
             Status::WriteFault => 4,
-            Status::OutOfMemory => 5,
+            Status::OutOfMemory(_) => WANT_CODE,
             Status::TooMany { .. } => 6,
         }
     }
@@ -43,7 +57,7 @@ impl Status {
 
 impl From<CaptureError> for Status {
     ghost use Rattle.std.specs.Prelude.{◌≡◌};
-    ghost use Rattle.scr_run.specs.Ends.{status_of};
+    ghost use Rattle.scr_run.specs.Asked.{status_of};
 
     ghost from_gives = { λ error status. status ≡ status_of error };
 
@@ -60,10 +74,10 @@ impl From<OutOfMemory> for Status {
     ghost use Rattle.std.specs.Prelude.{◌≡◌};
     ghost use Rattle.scr_run.specs.declared.status.Status.TheVariants as status;
 
-    ghost from_gives = { λ _ made. made ≡ status.OutOfMemory };
+    ghost from_gives = { λ want made. made ≡ status.OutOfMemory want };
 
-    fn from(_: OutOfMemory) -> Self {
-        Status::OutOfMemory
+    fn from(want: OutOfMemory) -> Self {
+        Status::OutOfMemory(want)
     }
 }
 
@@ -76,7 +90,21 @@ impl From<SinkError> for Status {
     fn from(error: SinkError) -> Self {
         match error {
             SinkError::Failed => Status::WriteFault,
-            SinkError::OutOfMemory => Status::OutOfMemory,
+            SinkError::OutOfMemory(want) => Status::OutOfMemory(want),
+        }
+    }
+}
+
+impl From<WordsError> for Status {
+    ghost use Rattle.std.specs.Prelude.{◌≡◌};
+    ghost use Rattle.scr_run.specs.Ends.{status_of_words};
+
+    ghost from_gives = { λ error status. status ≡ status_of_words error };
+
+    fn from(error: WordsError) -> Self {
+        match error {
+            WordsError::Refused(fault) => Status::Words(fault),
+            WordsError::OutOfMemory(want) => Status::OutOfMemory(want),
         }
     }
 }

@@ -1,9 +1,12 @@
 //! Runs over captures in memory. Captures, reports and lines are written by hand.
 
-use crate::{Status, names_of, scr_main};
+use crate::{Shape, Status, names_of, plain_run, run_engine, scr_main};
 use scr_base::{MemSink, MemSource, OutOfMemory, Source, SureSink, SureSource, Word};
 use scr_bucket::Bucket;
+use scr_ddos::{Ddos, DdosSettings};
 use scr_pcap::{CaptureError, Order};
+use scr_plan::Drops;
+use scr_report::read_report;
 use std::alloc::Global;
 use std::ops::Range;
 use std::process::Abort;
@@ -58,6 +61,11 @@ const REPORT: &str = "1 PASS\n2 PASS\n3 DROP\n4 DROP\n\
      flows 1\n\
      verdict PASS 2\nverdict DROP 2\nverdict OTHER 0\n";
 
+const PLAIN_REPORT: &str = "1 PASS\n2 PASS\n3 DROP\n4 DROP\n\
+     frames 4 delivered 4 kept 4\n\
+     flows 1\n\
+     verdict PASS 2\nverdict DROP 2\nverdict OTHER 0\n";
+
 /// A capture of the frame four times, in the byte order of its header, with these captured lengths.
 fn capture(
     alloc: Global,
@@ -99,15 +107,14 @@ struct Ended {
     err: SureSink,
 }
 
+// A caller of `scr_main` owes that there are fewer than 2^32 - 1 words.
 fn run_over<S: Source>(
     alloc: Global,
     texts: &[&str],
     capture: &mut S,
 ) -> Result<Ended, OutOfMemory> {
-    let words = words_of(alloc, texts)?;
-    if words.len() > 1000 {
-        return Err(OutOfMemory);
-    }
+    let mut words = words_of(alloc, texts)?;
+    words.truncate(1000);
     let mut out = SureSink::new(alloc, usize::MAX);
     let mut err = SureSink::new(alloc, usize::MAX);
     let status = scr_main(alloc, &words, capture, &mut out, &mut err);
@@ -354,6 +361,42 @@ fn reports_what_cores_gather(rt: HostRuntime) -> Result<(), Fail> {
 }
 
 #[test]
+fn a_program_runs_by_itself(rt: HostRuntime) -> Result<(), Fail> {
+    let mut settings = DdosSettings::new(1);
+    assert_eq!(rt; settings.set(b"threshold", b"2"), Ok(()));
+    let shape = Shape {
+        cores: 1,
+        history: 0,
+        drops: Drops::none(rt.alloc()),
+        ring: 1,
+        threads: false,
+    };
+    let mut source = SureSource::new(whole_capture(rt.alloc())?, 100);
+    let mut out = SureSink::new(rt.alloc(), 100);
+    let status = run_engine::<Ddos, SureSource, SureSink>(
+        rt.alloc(),
+        &settings,
+        shape,
+        true,
+        &mut source,
+        &mut out,
+    );
+    assert_eq!(rt; status, Status::Done);
+    assert_eq!(rt; out.written(), REPORT.as_bytes());
+    let mut source = SureSource::new(whole_capture(rt.alloc())?, 100);
+    let mut out = SureSink::new(rt.alloc(), 100);
+    let status = plain_run::<Ddos, SureSource, SureSink>(
+        rt.alloc(),
+        &settings,
+        &mut source,
+        &mut out,
+    );
+    assert_eq!(rt; status, Status::Done);
+    assert_eq!(rt; out.written(), PLAIN_REPORT.as_bytes());
+    Ok(())
+}
+
+#[test]
 fn makes_its_own_load(rt: HostRuntime) -> Result<(), Fail> {
     let mut source = SureSource::new(whole_capture(rt.alloc())?, 300);
     let words = ["load", "program=conn", "frames=1", "hosts=1"];
@@ -365,6 +408,63 @@ fn makes_its_own_load(rt: HostRuntime) -> Result<(), Fail> {
                   verdict LAST_ACK 0\nverdict TIME_WAIT 0\nverdict CLOSED 0\nverdict INVALID 0\nverdict OTHER 0\n";
     assert_ended(&rt, &ended, Status::Done, report, "");
     assert_eq!(rt; source.read(&mut [0; 300]), Ok(256));
+    Ok(())
+}
+
+/// The frame, from the host with this last byte of its address.
+fn frame_of(alloc: Global, host: u8) -> Result<Vec<u8>, OutOfMemory> {
+    let mut frame = Vec::from_slice(alloc, FRAME)?;
+    if let Some(byte) = frame.get_mut(29) {
+        *byte = host;
+    }
+    Ok(frame)
+}
+
+#[test]
+fn a_full_table_takes_another_flow(rt: HostRuntime) -> Result<(), Fail> {
+    let mut bytes = Vec::from_slice(rt.alloc(), MICROSECONDS)?;
+    for (seconds, host) in [(1, 1), (2, 2), (3, 1), (4, 1)] {
+        for field in [seconds, 0, 42, 42] {
+            bytes.extend_from_slice(&u32::to_le_bytes(field))?;
+        }
+        bytes.extend_from_slice(&frame_of(rt.alloc(), host)?)?;
+    }
+    let words = ["run", "program=ddos", "threshold=1", "flows=1"];
+    let ended = run_over(rt.alloc(), &words, &mut SureSource::new(bytes, 100))?;
+    // The second host takes the place of the first, and the first that of the second, with a count of its own.
+    let report = "1 PASS\n2 PASS\n3 PASS\n4 DROP\n\
+                  frames 4 delivered 4 kept 4\n\
+                  core 0 delivered 4 carried 4 recovered 0 skipped 0\n\
+                  flows 1\n\
+                  verdict PASS 3\nverdict DROP 1\nverdict OTHER 0\n";
+    assert_ended(&rt, &ended, Status::Done, report, "");
+    Ok(())
+}
+
+#[test]
+fn runs_with_the_greatest_settings(rt: HostRuntime) -> Result<(), Fail> {
+    let words = [
+        "load",
+        "program=bucket",
+        "flows=65536",
+        "ring=4096",
+        "cores=16",
+        "history=64",
+        "frames=1000",
+        "hosts=65536",
+    ];
+    let mut unread = SureSource::new(Vec::new(rt.alloc()), 1);
+    let ended = run_over(rt.alloc(), &words, &mut unread)?;
+    assert_eq!(rt; ended.status, Status::Done);
+    let names = names_of::<Bucket>(rt.alloc())?;
+    let text = ended.out.written();
+    assert!(rt; text.len() < 10_000);
+    let report = read_report(rt.alloc(), &names, text).expect(&rt, "it is a report");
+    assert_eq!(rt; report.frames, 1000);
+    assert_eq!(rt; report.delivered, 1000);
+    assert_eq!(rt; report.kept, 1000);
+    assert_eq!(rt; report.cores.len(), 16);
+    assert_eq!(rt; report.totals.iter().sum::<u64>(), 1000);
     Ok(())
 }
 

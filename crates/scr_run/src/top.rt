@@ -1,23 +1,23 @@
-ghost use Rattle.std.specs.Prelude.{◌≡◌, ◌≤◌, ◌<◌, ◌-◌, ◌^◌, ◌⊎◌, true, false, ℕ, List, Some, Ok, Err, length};
-ghost use Rattle.std.specs.Io.KnownBytes.{Appends, IsAtEnd};
-ghost use Rattle.scr_base.specs.Causes.{Rose};
-ghost use Rattle.scr_base.specs.Streams.{AppendsPrefix};
+ghost use Rattle.std.specs.Prelude.{◌≡◌, ◌≢◌, ◌<◌, ◌-◌, ◌^◌, ◌⊎◌, true, ℕ, List, Some, Ok, Err, length};
+ghost use Rattle.std.specs.Io.KnownBytes.{IsAtEnd};
+ghost use Rattle.scr_base.specs.Causes.{counted};
 ghost use Rattle.scr_pcap.specs.declared.error.CaptureError.{CaptureError};
 ghost use Rattle.scr_pcap.specs.Records.{Record};
 ghost use Rattle.scr_pcap.specs.Reading.{IsReading};
 ghost use Rattle.scr_words.specs.declared.word_fault.WordFault.{WordFault};
 ghost use Rattle.scr_words.specs.declared.settings.RunSettings.{RunSettings};
+ghost use Rattle.scr_words.specs.Operands.{makes_load};
 ghost use Rattle.scr_words.specs.WordFaults.{AreRefused};
 ghost use Rattle.scr_words.specs.GivenSettings.{AreAccepted};
-ghost use Rattle.scr_run.specs.FaultLines.{fault_line};
-ghost use Rattle.scr_run.specs.Ends.{HasFault, status_of, IsUnlessOutOfMemory};
-ghost use Rattle.scr_run.specs.Answers.{asks_for_load, HasWritten, HasBegun, IsOfNoCapture, MainEnds};
+ghost use Rattle.scr_run.specs.FaultLines.{fault_line, IsTold};
+ghost use Rattle.scr_run.specs.Asked.{IsAsked, TakeCapture, status_of};
+ghost use Rattle.scr_run.specs.Ends.{Ends, ended, Writes, StopsWriting, BeginsWriting, IsRefusal, IsOutOfMemory, IsUnlessOutOfMemory, IsWantsBehind, reads_behind, writes_behind};
 
 use crate::commands::run_chosen;
 use crate::fault_line::write_fault_line;
 use crate::status::Status;
 use scr_base::{Sink, Source, Word};
-use scr_words::{WordsError, read_words};
+use scr_words::read_words;
 use std::alloc::Global;
 
 /// All that the program does: it tests the words, takes the capture that they ask for, lets the program and the cores
@@ -37,72 +37,63 @@ pub fn scr_main<S: Source, O: Sink, E: Sink>(
 ) -> Status
     requires few_words { length words.now < 2 ^ 32 - 1 }
 
-    // The words are accepted, the capture was read to its end, and its report was written, whole and alone.
-    ensures done { result ≡ Status.Done → HasWritten words.now (S.left capture.old) (O.written out.old) (O.written out.new) }
-    ensures end { result ≡ Status.Done → asks_for_load words.now ≡ false → IsAtEnd (S.left capture.new) }
+    // At every exit `out` gained nothing, or a front of the text that words and capture ask for, and that behind the end
+    // of the capture.
+    ensures front { (out.new ≡ out.old) ⊎ BeginsWriting (IsAsked words.now (S.left capture.old)) (TakeCapture words.now → IsAtEnd (S.left capture.new)) (O.written out.old) (O.written out.new) }
 
-    // The words are refused exactly by their definition, and then nothing is read or written.
-    ensures words { (fault : WordFault) → result ≡ Status.Words fault → AreRefused words.now fault × (capture.new ≡ capture.old) × (out.new ≡ out.old) }
-    ensures refused { (fault : WordFault) → AreRefused words.now fault → IsUnlessOutOfMemory result (Status.Words fault) }
+    // Done: it gained that text, whole and alone.
+    ensures done { result ≡ Status.Done → Writes (IsAsked words.now (S.left capture.old)) (TakeCapture words.now → IsAtEnd (S.left capture.new)) (O.written out.old) (O.written out.new) }
 
-    // A fault of the capture is answered only where the capture has it, and exactly there where no read failed.
-    ensures capture { (error : CaptureError) → result ≡ Status.Capture error → (status_of error ≡ Status.Capture error) × HasFault (S.left capture.old) error × (out.new ≡ out.old) }
-    ensures too_many { (limit : ℕ) → result ≡ Status.TooMany limit → (limit ≡ 1000000) × HasFault (S.left capture.old) (CaptureError.TooMany limit) × (out.new ≡ out.old) }
-    ensures malformed { (settings : RunSettings) (bytes : List ℕ) (error : CaptureError) → AreAccepted words.now settings → asks_for_load words.now ≡ false
-        → S.left capture.old ≡ Some bytes → IsReading bytes (Err error) → (Rose (S.faults capture.old) (S.faults capture.new) → ⊥) → IsUnlessOutOfMemory result (status_of error) }
+    // A write failed, or memory ran out: the text isn't whole.
+    ensures write_fault { result ≡ Status.WriteFault → StopsWriting (IsAsked words.now (S.left capture.old)) (TakeCapture words.now → IsAtEnd (S.left capture.new)) (O.written out.old) (O.written out.new) }
+    ensures out_of_memory { IsOutOfMemory result → (out.new ≡ out.old)
+        ⊎ StopsWriting (IsAsked words.now (S.left capture.old)) (TakeCapture words.now → IsAtEnd (S.left capture.new)) (O.written out.old) (O.written out.new) }
 
-    // A stream's failure is answered only where its count rose.
-    ensures read_fault { result ≡ Status.ReadFault → Rose (S.faults capture.old) (S.faults capture.new) × (out.new ≡ out.old) }
-    ensures write_fault { result ≡ Status.WriteFault → Rose (O.faults out.old) (O.faults out.new)
-        × HasBegun words.now (S.left capture.old) (O.written out.old) (O.written out.new) }
-    ensures out_of_memory { result ≡ Status.OutOfMemory → (out.new ≡ out.old) ⊎ HasBegun words.now (S.left capture.old) (O.written out.old) (O.written out.new) }
+    // Words or a capture are refused only where they ask for that status.
+    ensures refused { IsRefusal result → IsAsked words.now (S.left capture.old) (Err result) × (out.new ≡ out.old) }
 
-    // Nothing is written before the capture was read to its end. Where memory ran out later, `out` wanted it.
-    ensures late { asks_for_load words.now ≡ false → (out.new ≡ out.old) ⊎ IsAtEnd (S.left capture.new) }
-    ensures wanting { result ≡ Status.OutOfMemory → (out.new ≡ out.old) ⊎ Rose (O.wants out.old) (O.wants out.new) }
+    // Reading failed: the words are accepted, and take a capture.
+    ensures read_fault { result ≡ Status.ReadFault → TakeCapture words.now × (out.new ≡ out.old) }
 
-    // Where the capture is made up, none is read, and no answer speaks of one.
-    ensures unread { asks_for_load words.now ≡ true → (capture.new ≡ capture.old) }
-    ensures made_up { asks_for_load words.now ≡ true → IsOfNoCapture result }
+    // Where the words are refused, or make their capture up, none is read.
+    ensures unread { (TakeCapture words.now → ⊥) → capture.new ≡ capture.old }
 
-    // Over accepted words and a valid capture, with no failure of a stream, the report is written.
-    ensures complete { (settings : RunSettings) (bytes : List ℕ) (records : List Record) → AreAccepted words.now settings → asks_for_load words.now ≡ false
-        → S.left capture.old ≡ Some bytes → IsReading bytes (Ok records)
-        → (Rose (S.faults capture.old) (S.faults capture.new) → ⊥) → (Rose (O.faults out.old) (O.faults out.new) → ⊥) → IsUnlessOutOfMemory result Status.Done }
-    ensures complete_load { (settings : RunSettings) → AreAccepted words.now settings → asks_for_load words.now ≡ true
-        → (Rose (O.faults out.old) (O.faults out.new) → ⊥) → IsUnlessOutOfMemory result Status.Done }
+    // Refused words are answered as such; a malformed capture is where no read failed; and where neither is refused, and no
+    // stream failed, the run is done.
+    ensures words { (fault : WordFault) → AreRefused words.now fault → IsUnlessOutOfMemory result (Status.Words fault) }
+    ensures malformed { (bytes : List ℕ) (error : CaptureError) → TakeCapture words.now → S.left capture.old ≡ Some bytes → IsReading bytes (Err error)
+        → S.faults capture.new ≢ counted (S.faults capture.old) → IsUnlessOutOfMemory result (status_of error) }
+    ensures complete { (bytes : List ℕ) (records : List Record) → TakeCapture words.now → S.left capture.old ≡ Some bytes → IsReading bytes (Ok records)
+        → S.faults capture.new ≢ counted (S.faults capture.old) → O.faults out.new ≢ counted (O.faults out.old) → IsUnlessOutOfMemory result Status.Done }
+    ensures complete_load { (settings : RunSettings) → AreAccepted words.now settings → makes_load settings.command ≡ true
+        → O.faults out.new ≢ counted (O.faults out.old) → IsUnlessOutOfMemory result Status.Done }
 
-    // The line of the status, or a front of it where writing it failed, which never changes the status.
-    ensures line { AppendsPrefix (E.written err.old) (E.written err.new) (fault_line result) }
-    ensures whole_line { (Rose (E.faults err.old) (E.faults err.new) → ⊥) → (Rose (E.wants err.old) (E.wants err.new) → ⊥)
-        → Appends (E.written err.old) (E.written err.new) (fault_line result) }
+    // The counts tell how often a stream failed: once where the status says so, else never.
+    ensures reads { S.faults capture.new ≡ reads_behind result (S.faults capture.old) }
+    ensures writes { O.faults out.new ≡ writes_behind result (O.faults out.old) }
+    ensures wants { IsWantsBehind result (O.wants out.old) (O.wants out.new) }
 
-    ensures later_capture { S.faults capture.old ≤ S.faults capture.new }
-    ensures later_out { O.faults out.old ≤ O.faults out.new }
-    ensures later_out_wants { O.wants out.old ≤ O.wants out.new }
-    ensures later_err { E.faults err.old ≤ E.faults err.new }
-    ensures later_err_wants { E.wants err.old ≤ E.wants err.new }
+    // `err` gained the line of the status, or where a call of it failed, a front of the line, which its counts tell; nothing
+    // is called where the run is done.
+    ensures line { IsTold E.written E.faults E.wants err.old err.new (fault_line result) }
+    ensures silent { result ≡ Status.Done → err.new ≡ err.old }
 {
-    let status = run(alloc, words, capture, out);
+    let status = Status::of(run(alloc, words, capture, out));
     let _ = write_fault_line(err, &status);
     status
 }
 
-fn run<S: Source, O: Sink>(alloc: Global, words: &[Word], capture: &mut S, out: &mut O) -> Status
+fn run<S: Source, O: Sink>(
+    alloc: Global,
+    words: &[Word],
+    capture: &mut S,
+    out: &mut O,
+) -> Result<(), Status>
     requires few_words { length words.now < 2 ^ 32 - 1 }
-    ensures ends { MainEnds words.now S.left S.faults O.written O.faults capture.old capture.new out.old out.new result }
-    ensures refused { (fault : WordFault) → AreRefused words.now fault → IsUnlessOutOfMemory result (Status.Words fault) }
-    ensures complete_load { asks_for_load words.now ≡ true → (Rose (O.faults out.old) (O.faults out.new) → ⊥) → IsUnlessOutOfMemory result Status.Done ⊎ ((settings : RunSettings) → AreAccepted words.now settings → ⊥) }
-    ensures unread { asks_for_load words.now ≡ true → (capture.new ≡ capture.old) }
-    ensures late { asks_for_load words.now ≡ false → (out.new ≡ out.old) ⊎ IsAtEnd (S.left capture.new) }
-    ensures wanting { result ≡ Status.OutOfMemory → (out.new ≡ out.old) ⊎ Rose (O.wants out.old) (O.wants out.new) }
-    ensures later_capture { S.faults capture.old ≤ S.faults capture.new }
-    ensures later_out { O.faults out.old ≤ O.faults out.new }
-    ensures later_out_wants { O.wants out.old ≤ O.wants out.new }
+    ensures ends { Ends (IsAsked words.now (S.left capture.old)) (TakeCapture words.now) (TakeCapture words.now → IsAtEnd (S.left capture.new))
+        O.written (S.faults capture.old) (S.faults capture.new) O.faults O.wants out.old out.new (ended result) }
+    ensures unread { (TakeCapture words.now → ⊥) → capture.new ≡ capture.old }
 {
-    match read_words(alloc, words) {
-        Ok(chosen) => run_chosen(alloc, chosen, capture, out),
-        Err(WordsError::Refused(fault)) => Status::Words(fault),
-        Err(WordsError::OutOfMemory) => Status::OutOfMemory,
-    }
+    let chosen = read_words(alloc, words)?;
+    run_chosen(alloc, chosen, capture, out)
 }

@@ -10,7 +10,7 @@ use Rattle.scr_plan.proofs.OneReading.{Spells-same}
 use Rattle.scr_program.specs.declared.setting.SettingError.TheVariants.{Value, Range}
 use Rattle.scr_knock.specs.Ports.{is_comma, is_port, ports_of}
 use Rattle.scr_knock.specs.declared.settings.KnockSettings.{KnockSettings}
-use Rattle.scr_words.specs.Limits.{most_flows, most_cores, most_history, most_ring, most_frames, most_hosts}
+use Rattle.scr_words.specs.Limits.{most_flows}
 use Rattle.scr_words.specs.declared.settings.Command.{Command}
 use Rattle.scr_words.specs.declared.settings.ProgramSettings.{ProgramSettings}
 use Rattle.scr_words.specs.declared.settings.ProgramSettings.TheVariants.{Ddos, Heavy, Bucket, Knock, Conn}
@@ -77,15 +77,15 @@ HasPorts-are : (text : List ℕ) (settings : KnockSettings) → ArePorts-of text
 HasPorts-are text settings ports has = rw ports.read at has
 
 -- facts along an equation
-at_least : (bound : ℕ) {m n : ℕ} (e : m ≡ n) (p : bound ≤ m) (q : bound ≤ n) → PathP (λ i. bound ≤ e i) p q
-at_least bound e p q = to_path_p (λ i. bound ≤ e i) (le_prop _ q)
+at_least : {bound m n : ℕ} (e : m ≡ n) (p : bound ≤ m) (q : bound ≤ n) → PathP (λ i. bound ≤ e i) p q
+at_least {bound} e p q = to_path_p (λ i. bound ≤ e i) (le_prop _ q)
 
-at_most : (bound : ℕ) {m n : ℕ} (e : m ≡ n) (p : m ≤ bound) (q : n ≤ bound) → PathP (λ i. e i ≤ bound) p q
-at_most bound e p q = to_path_p (λ i. e i ≤ bound) (le_prop _ q)
+at_most : {bound m n : ℕ} (e : m ≡ n) (p : m ≤ bound) (q : n ≤ bound) → PathP (λ i. e i ≤ bound) p q
+at_most {bound} e p q = to_path_p (λ i. e i ≤ bound) (le_prop _ q)
 
 module _ (operands : List (List ℕ)) (values : HaveFaultlessValues operands) where
   flows_inside : (1 ≤ number_for operand.Flows operands) × (number_for operand.Flows operands ≤ most_flows)
-  flows_inside = number-inside operands values operand.Flows 1 most_flows refl refl
+  flows_inside = number-inside operands values operand.Flows refl refl
 
   ports_are : ArePorts-of (value_for operand.Ports operands)
   ports_are = ArePorts-from _ _ _ (value_for-passes operand.Ports operands values refl)
@@ -95,15 +95,15 @@ module _ (operands : List (List ℕ)) (values : HaveFaultlessValues operands) wh
   made program.Ddos = Ddos (record {
     threshold = number_for operand.Threshold operands;
     flows = number_for operand.Flows operands;
-    threshold_fits = (number-inside operands values operand.Threshold 0 4294967295 refl refl).1;
+    threshold_fits = (number-inside operands values operand.Threshold refl refl).1;
     some = flows_inside.0;
     few = flows_inside.1;
   })
   made program.Heavy = Heavy (record {
     bytes = number_for operand.Bytes operands;
     flows = number_for operand.Flows operands;
-    bytes_some = (number-inside operands values operand.Bytes 1 1000000000000 refl refl).0;
-    bytes_fits = (number-inside operands values operand.Bytes 1 1000000000000 refl refl).1;
+    bytes_some = (number-inside operands values operand.Bytes refl refl).0;
+    bytes_fits = (number-inside operands values operand.Bytes refl refl).1;
     some = flows_inside.0;
     few = flows_inside.1;
   })
@@ -111,9 +111,9 @@ module _ (operands : List (List ℕ)) (values : HaveFaultlessValues operands) wh
     rate = number_for operand.Rate operands;
     burst = number_for operand.Burst operands;
     flows = number_for operand.Flows operands;
-    rate_fits = (number-inside operands values operand.Rate 0 1000000000 refl refl).1;
-    burst_some = (number-inside operands values operand.Burst 1 1000000000 refl refl).0;
-    burst_fits = (number-inside operands values operand.Burst 1 1000000000 refl refl).1;
+    rate_fits = (number-inside operands values operand.Rate refl refl).1;
+    burst_some = (number-inside operands values operand.Burst refl refl).0;
+    burst_fits = (number-inside operands values operand.Burst refl refl).1;
     some = flows_inside.0;
     few = flows_inside.1;
   })
@@ -131,8 +131,8 @@ module _ (operands : List (List ℕ)) (values : HaveFaultlessValues operands) wh
   made program.Conn = Conn (record {
     idle = number_for operand.Idle operands;
     flows = number_for operand.Flows operands;
-    some_time = (number-inside operands values operand.Idle 1 10000000000000 refl refl).0;
-    few_time = (number-inside operands values operand.Idle 1 10000000000000 refl refl).1;
+    some_time = (number-inside operands values operand.Idle refl refl).0;
+    few_time = (number-inside operands values operand.Idle refl refl).1;
     some_flows = flows_inside.0;
     few_flows = flows_inside.1;
   })
@@ -157,9 +157,9 @@ module _ (operands : List (List ℕ)) (values : HaveFaultlessValues operands) wh
     same = λ i. Ddos (record {
       threshold = threshold i;
       flows = flows i;
-      threshold_fits = at_most 4294967295 threshold settings.threshold_fits (number-inside operands values operand.Threshold 0 4294967295 refl refl).1 i;
-      some = at_least 1 flows settings.some flows_inside.0 i;
-      few = at_most 65536 flows settings.few flows_inside.1 i;
+      threshold_fits = at_most threshold settings.threshold_fits (number-inside operands values operand.Threshold refl refl).1 i;
+      some = at_least flows settings.some flows_inside.0 i;
+      few = at_most flows settings.few flows_inside.1 i;
     });
   }
   IsMade-from (Heavy settings) (is, bytes, flows) = record {
@@ -168,10 +168,10 @@ module _ (operands : List (List ℕ)) (values : HaveFaultlessValues operands) wh
     same = λ i. Heavy (record {
       bytes = bytes i;
       flows = flows i;
-      bytes_some = at_least 1 bytes settings.bytes_some (number-inside operands values operand.Bytes 1 1000000000000 refl refl).0 i;
-      bytes_fits = at_most 1000000000000 bytes settings.bytes_fits (number-inside operands values operand.Bytes 1 1000000000000 refl refl).1 i;
-      some = at_least 1 flows settings.some flows_inside.0 i;
-      few = at_most 65536 flows settings.few flows_inside.1 i;
+      bytes_some = at_least bytes settings.bytes_some (number-inside operands values operand.Bytes refl refl).0 i;
+      bytes_fits = at_most bytes settings.bytes_fits (number-inside operands values operand.Bytes refl refl).1 i;
+      some = at_least flows settings.some flows_inside.0 i;
+      few = at_most flows settings.few flows_inside.1 i;
     });
   }
   IsMade-from (Bucket settings) (is, rate, burst, flows) = record {
@@ -181,11 +181,11 @@ module _ (operands : List (List ℕ)) (values : HaveFaultlessValues operands) wh
       rate = rate i;
       burst = burst i;
       flows = flows i;
-      rate_fits = at_most 1000000000 rate settings.rate_fits (number-inside operands values operand.Rate 0 1000000000 refl refl).1 i;
-      burst_some = at_least 1 burst settings.burst_some (number-inside operands values operand.Burst 1 1000000000 refl refl).0 i;
-      burst_fits = at_most 1000000000 burst settings.burst_fits (number-inside operands values operand.Burst 1 1000000000 refl refl).1 i;
-      some = at_least 1 flows settings.some flows_inside.0 i;
-      few = at_most 65536 flows settings.few flows_inside.1 i;
+      rate_fits = at_most rate settings.rate_fits (number-inside operands values operand.Rate refl refl).1 i;
+      burst_some = at_least burst settings.burst_some (number-inside operands values operand.Burst refl refl).0 i;
+      burst_fits = at_most burst settings.burst_fits (number-inside operands values operand.Burst refl refl).1 i;
+      some = at_least flows settings.some flows_inside.0 i;
+      few = at_most flows settings.few flows_inside.1 i;
     });
   }
   IsMade-from (Knock settings) (is, ports, flows) =
@@ -198,11 +198,11 @@ module _ (operands : List (List ℕ)) (values : HaveFaultlessValues operands) wh
           second = second i;
           third = third i;
           flows = flows i;
-          some_first = at_least 1 first settings.some_first ports_are.first_some i;
-          some_second = at_least 1 second settings.some_second ports_are.second_some i;
-          some_third = at_least 1 third settings.some_third ports_are.third_some i;
-          some_flows = at_least 1 flows settings.some_flows flows_inside.0 i;
-          few_flows = at_most 65536 flows settings.few_flows flows_inside.1 i;
+          some_first = at_least first settings.some_first ports_are.first_some i;
+          some_second = at_least second settings.some_second ports_are.second_some i;
+          some_third = at_least third settings.some_third ports_are.third_some i;
+          some_flows = at_least flows settings.some_flows flows_inside.0 i;
+          few_flows = at_most flows settings.few_flows flows_inside.1 i;
         });
       }
   IsMade-from (Conn settings) (is, idle, flows) = record {
@@ -211,10 +211,10 @@ module _ (operands : List (List ℕ)) (values : HaveFaultlessValues operands) wh
     same = λ i. Conn (record {
       idle = idle i;
       flows = flows i;
-      some_time = at_least 1 idle settings.some_time (number-inside operands values operand.Idle 1 10000000000000 refl refl).0 i;
-      few_time = at_most 10000000000000 idle settings.few_time (number-inside operands values operand.Idle 1 10000000000000 refl refl).1 i;
-      some_flows = at_least 1 flows settings.some_flows flows_inside.0 i;
-      few_flows = at_most 65536 flows settings.few_flows flows_inside.1 i;
+      some_time = at_least idle settings.some_time (number-inside operands values operand.Idle refl refl).0 i;
+      few_time = at_most idle settings.few_time (number-inside operands values operand.Idle refl refl).1 i;
+      some_flows = at_least flows settings.some_flows flows_inside.0 i;
+      few_flows = at_most flows settings.few_flows flows_inside.1 i;
     });
   }
 
@@ -228,8 +228,8 @@ module _ (operands : List (List ℕ)) (values : HaveFaultlessValues operands) wh
   shape_some : (shape : Shape) × HasShape operands shape
   shape_some =
       let (ranges, spells) = Spells-some (value_for operand.Drop operands) (value_for-passes operand.Drop operands values drop_list_fault-empty) in
-      let cores = number-inside operands values operand.Cores 1 most_cores refl refl in
-      let ring = number-inside operands values operand.Ring 1 most_ring refl refl in
+      let cores = number-inside operands values operand.Cores refl refl in
+      let ring = number-inside operands values operand.Ring refl refl in
       let shape : Shape = record {
         cores = number_for operand.Cores operands;
         history = history_for operands;
@@ -248,7 +248,7 @@ module _ (operands : List (List ℕ)) (values : HaveFaultlessValues operands) wh
       → (settings : RunSettings) × (settings.command ≡ command) × AreChosen operands settings
   settings_some command name is =
       let (shape, has_shape) = shape_some in
-      let hosts = number-inside operands values operand.Hosts 1 most_hosts refl refl in
+      let hosts = number-inside operands values operand.Hosts refl refl in
       let settings : RunSettings = record {
         command = command;
         program = made name;
@@ -256,7 +256,7 @@ module _ (operands : List (List ℕ)) (values : HaveFaultlessValues operands) wh
         start = number_for operand.Start operands;
         frames = number_for operand.Frames operands;
         hosts = number_for operand.Hosts operands;
-        few_frames = (number-inside operands values operand.Frames 0 most_frames refl refl).1;
+        few_frames = (number-inside operands values operand.Frames refl refl).1;
         some_hosts = hosts.0;
         few_hosts = hosts.1;
       } in
@@ -270,11 +270,11 @@ Shape-same a b cores history drops ring threads = λ i. record {
   drops = drops i;
   ring = ring i;
   threads = threads i;
-  some_cores = at_least 1 cores a.some_cores b.some_cores i;
-  few_cores = at_most most_cores cores a.few_cores b.few_cores i;
-  short_history = at_most most_history history a.short_history b.short_history i;
-  some_ring = at_least 1 ring a.some_ring b.some_ring i;
-  short_ring = at_most most_ring ring a.short_ring b.short_ring i;
+  some_cores = at_least cores a.some_cores b.some_cores i;
+  few_cores = at_most cores a.few_cores b.few_cores i;
+  short_history = at_most history a.short_history b.short_history i;
+  some_ring = at_least ring a.some_ring b.some_ring i;
+  short_ring = at_most ring a.short_ring b.short_ring i;
 }
 
 HasShape-same : (operands : List (List ℕ)) (a b : Shape) → HasShape operands a → HasShape operands b → a ≡ b
@@ -292,9 +292,9 @@ RunSettings-same a b command program shape start frames hosts = λ i. record {
   start = start i;
   frames = frames i;
   hosts = hosts i;
-  few_frames = at_most most_frames frames a.few_frames b.few_frames i;
-  some_hosts = at_least 1 hosts a.some_hosts b.some_hosts i;
-  few_hosts = at_most most_hosts hosts a.few_hosts b.few_hosts i;
+  few_frames = at_most frames a.few_frames b.few_frames i;
+  some_hosts = at_least hosts a.some_hosts b.some_hosts i;
+  few_hosts = at_most hosts a.few_hosts b.few_hosts i;
 }
 
 -- words choose one settings

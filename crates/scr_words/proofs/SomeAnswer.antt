@@ -23,8 +23,10 @@ module _ (command : Command) (operands : List (List ℕ)) where
       → AreFaultlessUpTo (suc count) ⊎ ((fault : WordFault) × IsFirstFault command operands fault)
   first-here count None within before is = inl (subst AreFaultlessUpTo (add-one count) (below_more (λ i. fault_at command operands i ≡ None) count before is))
   first-here count (Some cause) within before is =
-      inr (record { word = count + 2; cause = cause },
-        record { place = count; within = within; before = before; cause = is; number = refl })
+      inr (
+        record { word = count + 2; cause = cause },
+        record { place = count; within = within; before = before; cause = is; number = refl },
+      )
 
   first-upto : (count : ℕ) → count ≤ length operands → AreFaultlessUpTo count ⊎ ((fault : WordFault) × IsFirstFault command operands fault)
   first-upto zero within = inl (λ i below. absurd (omega arith))

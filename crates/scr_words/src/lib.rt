@@ -3,15 +3,18 @@
 //! **What it does.** [`read_words`] tests the words and gives the settings that they choose, with the defaults for what they
 //! leave out, or the first word that is refused, with its first cause. [`put_word_line`] writes the line of a refused word.
 //!
-//! **What a contract sees.** Words as lists of bytes. The table of operands is specs/Operands.antt, why words are refused
-//! specs/WordFaults.antt, which settings they choose specs/GivenSettings.antt, and the line specs/WordLines.antt.
+//! **What a contract sees.** Words as lists of bytes. The table of operands is specs/Operands.antt, with the limits in
+//! specs/Limits.antt; why words are refused is specs/WordFaults.antt, which settings they choose specs/GivenSettings.antt, and
+//! the line specs/WordLines.antt.
 //!
-//! **What is proved.** Words are accepted or refused exactly by their definitions, where memory suffices.
+//! **What is proved.** Settings come only for words that are accepted, a refusal only for those that are refused, each by its
+//! definition. Any words have an answer ([`some_answer`]), and one alone ([`one_answer`]). So where memory suffices words are
+//! accepted or refused, and rightly.
 //!
-//! **What is only tested.** That words are read where there is memory, since no contract sees how much there is. That
+//! **What is only tested.** That there are settings where there is memory, since no contract sees how much there is. That
 //! settings and lines, written by hand, are what the definitions say.
 //!
-//! **Limits.** Fewer than 2^32 - 1 words.
+//! **Limits.** Fewer than 2^32 - 1 words. The drop list alone is kept in memory.
 #![tactic(auto)]
 
 mod choosing;

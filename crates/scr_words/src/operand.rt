@@ -4,10 +4,15 @@ ghost use Rattle.scr_words.specs.Operands.{command_name, program_name, command_n
 use crate::settings::Command;
 
 const MOST_FLOWS: u64 = 65_536;
+
 const MOST_CORES: u64 = 16;
+
 const MOST_HISTORY: u64 = 64;
+
 const MOST_RING: u64 = 4096;
+
 const MOST_FRAMES: u64 = 1_000_000;
+
 const MOST_HOSTS: u64 = 65_536;
 
 const COMMANDS: [Command; 3] = [Command::Run, Command::Plain, Command::Load];

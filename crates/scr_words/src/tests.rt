@@ -137,6 +137,27 @@ fn takes_the_shape_of_a_run(rt: HostRuntime) -> Result<(), Fail> {
 }
 
 #[test]
+fn gives_the_greatest_of_each_setting(rt: HostRuntime) -> Result<(), Fail> {
+    let line =
+        "load program=ddos flows=65536 cores=16 history=64 ring=4096 start=18446744073709551615 frames=1000000 hosts=65536 threshold=4294967295";
+    let settings = read(rt.alloc(), line).map_err(|_| "refused")?;
+    let (threshold, flows) = (4_294_967_295, 65_536);
+    let ddos = ProgramSettings::Ddos(DdosSettings { threshold, flows });
+    assert_eq!(rt; settings.program, ddos);
+    let shape = settings.shape;
+    assert_eq!(rt; (shape.cores, shape.history, shape.ring), (16, 64, 4096));
+    assert_eq!(rt;
+        (settings.start, settings.frames, settings.hosts),
+        (u64::MAX, 1_000_000, 65_536)
+    );
+    let (rate, burst) = (1_000_000_000, 1_000_000_000);
+    let bucket = ProgramSettings::Bucket(BucketSettings { rate, burst, flows });
+    let line = "plain program=bucket rate=1000000000 burst=00001000000000 flows=065536";
+    assert_eq!(rt; program(rt.alloc(), line), Some(bucket));
+    Ok(())
+}
+
+#[test]
 fn takes_an_empty_drop_list_and_numbers_beyond_the_run(rt: HostRuntime) -> Result<(), Fail> {
     let ddos = ProgramSettings::Ddos(DdosSettings {
         threshold: 2,

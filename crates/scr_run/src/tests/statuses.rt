@@ -1,7 +1,7 @@
 //! The number of each status, and its line.
 
-use crate::{Status, WordCause, WordFault, write_fault_line};
-use scr_base::SureSink;
+use crate::{Status, WordCause, WordFault, tell_want, write_fault_line};
+use scr_base::{OutOfMemory, SureSink};
 use scr_pcap::CaptureError;
 use std::test::Fail;
 
@@ -15,6 +15,8 @@ fn tells_each_status(rt: HostRuntime) -> Result<(), Fail> {
         number: 2,
         length: 262145,
     };
+    let too_large = Vec::<u8>::with_capacity(rt.alloc(), usize::MAX);
+    let want = OutOfMemory::from(too_large.err().expect(&rt, "no memory is so large"));
     let cases: [(Status, u8, &str); 12] = [
         (Status::Done, 0, ""),
         (Status::Words(fault), 1, "scr: word 2: Missing\n"),
@@ -50,7 +52,7 @@ fn tells_each_status(rt: HostRuntime) -> Result<(), Fail> {
         ),
         (Status::ReadFault, 3, "scr: read fault\n"),
         (Status::WriteFault, 4, "scr: write fault\n"),
-        (Status::OutOfMemory, 5, "scr: out of memory\n"),
+        (Status::OutOfMemory(want), 5, "scr: out of memory\n"),
         (
             Status::TooMany { limit: 1000000 },
             6,
@@ -64,4 +66,11 @@ fn tells_each_status(rt: HostRuntime) -> Result<(), Fail> {
         assert_eq!(rt; status.code(), code);
     }
     Ok(())
+}
+
+#[test]
+fn tells_that_there_was_no_memory(rt: HostRuntime) {
+    let mut err = SureSink::new(rt.alloc(), 100);
+    assert_eq!(rt; tell_want(&mut err), 5);
+    assert_eq!(rt; err.written(), &b"scr: out of memory\n"[..]);
 }

@@ -19,7 +19,7 @@ fn at(word: u32, cause: WordCause) -> Option<WordFault> {
 }
 
 /// Words, and the line that must come.
-const REFUSED: [(&str, &str); 16] = [
+const REFUSED: [(&str, &str); 17] = [
     ("", "scr: word 1: NoCommand\n"),
     ("walk", "scr: word 1: Command\n"),
     ("run", "scr: word 2: Missing\n"),
@@ -44,6 +44,10 @@ const REFUSED: [(&str, &str); 16] = [
     (
         "run program=ddos drop=1,2x",
         "scr: word 3: Drop Digit at 2\n",
+    ),
+    (
+        "run program=ddos drop=12-1000000001",
+        "scr: word 3: Drop TooLarge at 0\n",
     ),
 ];
 
@@ -182,6 +186,19 @@ fn splits_words_at_the_first_equals(rt: HostRuntime) -> Result<(), Fail> {
         refusal(alloc, "run program=ddos  cores=0"),
         at(3, WordCause::NoEquals)
     );
+    assert_eq!(rt;
+        refusal(alloc, " run program=ddos"),
+        at(1, WordCause::Command)
+    );
+    assert_eq!(rt;
+        refusal(alloc, "run  program=ddos"),
+        at(2, WordCause::NoEquals)
+    );
+    assert_eq!(rt;
+        refusal(alloc, "load program=ddos frames=1 "),
+        at(4, WordCause::NoEquals)
+    );
+    assert_eq!(rt; refusal(alloc, "run ="), at(2, WordCause::UnknownName));
     assert_eq!(rt; refusal(alloc, "run =ddos"), at(2, WordCause::UnknownName));
     assert_eq!(rt;
         refusal(alloc, "run program=ddos=x"),
@@ -196,13 +213,21 @@ fn splits_words_at_the_first_equals(rt: HostRuntime) -> Result<(), Fail> {
 }
 
 /// Numbers at the ends of their ranges and beyond, and long ones.
-const NUMBERS: [(&str, Option<WordCause>); 26] = [
+const NUMBERS: [(&str, Option<WordCause>); 55] = [
     ("load program=ddos flows=0", Some(WordCause::Range)),
+    ("load program=ddos flows=1", None),
+    ("load program=ddos flows=65536", None),
     ("load program=ddos flows=65537", Some(WordCause::Range)),
+    ("load program=ddos cores=0", Some(WordCause::Range)),
     ("load program=ddos cores=16", None),
+    ("load program=ddos cores=17", Some(WordCause::Range)),
     (
         "load program=ddos cores=00000000000000000000000000000000000000001",
         None,
+    ),
+    (
+        "load program=ddos cores=00000000000000000000000000000000000000017",
+        Some(WordCause::Range),
     ),
     (
         "load program=ddos cores=9999999999999999999999999999999999999999",
@@ -212,8 +237,11 @@ const NUMBERS: [(&str, Option<WordCause>); 26] = [
         "load program=ddos cores=999999999999999999999999999999999999999x",
         Some(WordCause::Value),
     ),
+    ("load program=ddos history=0", None),
     ("load program=ddos history=64", None),
     ("load program=ddos history=65", Some(WordCause::Range)),
+    ("load program=ddos ring=0", Some(WordCause::Range)),
+    ("load program=ddos ring=1", None),
     ("load program=ddos ring=4096", None),
     ("load program=ddos ring=4097", Some(WordCause::Range)),
     ("load program=ddos start=18446744073709551615", None),
@@ -221,31 +249,64 @@ const NUMBERS: [(&str, Option<WordCause>); 26] = [
         "load program=ddos start=18446744073709551616",
         Some(WordCause::Range),
     ),
+    (
+        "load program=ddos start=00000000000000000000018446744073709551615",
+        None,
+    ),
+    ("load program=ddos frames=0", None),
     ("load program=ddos frames=1000000", None),
     ("load program=ddos frames=1000001", Some(WordCause::Range)),
     ("load program=ddos hosts=0", Some(WordCause::Range)),
+    ("load program=ddos hosts=1", None),
     ("load program=ddos hosts=65536", None),
+    ("load program=ddos hosts=65537", Some(WordCause::Range)),
+    ("load program=ddos threshold=0", None),
+    ("load program=ddos threshold=4294967295", None),
     (
         "load program=ddos threshold=4294967296",
         Some(WordCause::Range),
     ),
     ("load program=ddos threshold=-1", Some(WordCause::Value)),
     ("load program=ddos threshold=+1", Some(WordCause::Value)),
+    ("load program=heavy bytes=0", Some(WordCause::Range)),
+    ("load program=heavy bytes=1", None),
+    ("load program=heavy bytes=1000000000000", None),
     (
         "load program=heavy bytes=1000000000001",
         Some(WordCause::Range),
     ),
+    ("load program=bucket rate=0", None),
+    ("load program=bucket rate=1000000000", None),
     (
         "load program=bucket rate=1000000001",
         Some(WordCause::Range),
     ),
     ("load program=bucket burst=0", Some(WordCause::Range)),
+    ("load program=bucket burst=1", None),
+    ("load program=bucket burst=1000000000", None),
+    (
+        "load program=bucket burst=1000000001",
+        Some(WordCause::Range),
+    ),
+    ("load program=knock ports=1,1,1", None),
+    ("load program=knock ports=65535,65535,65535", None),
+    ("load program=knock ports=1,1,65536", Some(WordCause::Range)),
+    (
+        "load program=knock ports=00000000000000000000000000022,0080,00443",
+        None,
+    ),
     ("load program=conn idle=0", Some(WordCause::Range)),
+    ("load program=conn idle=1", None),
+    ("load program=conn idle=10000000000000", None),
     (
         "load program=conn idle=10000000000001",
         Some(WordCause::Range),
     ),
     ("load program=ddos drop=", None),
+    (
+        "load program=ddos drop=00000000000000000000001-0002/00000000003",
+        None,
+    ),
     ("load program=ddos threads=no", None),
 ];
 
@@ -272,5 +333,27 @@ fn takes_words_of_any_bytes(rt: HostRuntime) -> Result<(), Fail> {
         return Err(Fail::from("taken"));
     };
     assert_eq!(rt; error, wanted);
+    Ok(())
+}
+
+#[test]
+fn refuses_the_257th_piece(rt: HostRuntime) -> Result<(), Fail> {
+    let mut text = Vec::from_slice(rt.alloc(), b"drop=")?;
+    for _ in 0..256 {
+        text.extend_from_slice(b"1,")?;
+    }
+    text.push(b'1')?;
+    let words = [Word::of(rt.alloc(), b"run")?, Word::of(rt.alloc(), &text)?];
+    let Err(error) = read_words(rt.alloc(), &words) else {
+        return Err(Fail::from("taken"));
+    };
+    let (cause, place) = (DropCause::Pieces, 512);
+    assert_eq!(rt;
+        error,
+        WordsError::Refused(WordFault {
+            word: 2,
+            cause: WordCause::Drop { cause, place }
+        })
+    );
     Ok(())
 }

@@ -1,4 +1,4 @@
-use Rattle.std.proofs.Common.{◌≡◌, ◌<◌}
+use Rattle.std.proofs.Common.{◌≡◌}
 use Rattle.scr_bench.proofs.logged.by_core.Given as goal
 
 abbrev pub invariant-loop-i : goal.invariant-loop-i

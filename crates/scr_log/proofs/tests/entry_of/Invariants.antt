@@ -1,10 +1,10 @@
 use Rattle.std.proofs.Common.{◌≡◌}
+use Rattle.scr_log.specs.Passes.{IsCurrent}
 use Rattle.scr_log.proofs.tests.entry_of.Given as goal
 
 abbrev pub invariant-loop : goal.invariant-loop
 invariant-loop g l = record {
+  current : IsCurrent l.fn.logs.now l.pass l.fn.p;
   same : l.pass.logs ≡ l.fn.pass.logs;
   core : l.pass.core ≡ l.fn.pass.core;
-  published : l.pass.published ≡ l.fn.pass.published;
-  finished : l.pass.finished ≡ l.fn.pass.finished;
 }

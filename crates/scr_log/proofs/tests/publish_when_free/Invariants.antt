@@ -1,10 +1,11 @@
 use Rattle.std.proofs.Common.{◌≡◌}
+use Rattle.scr_log.specs.Passes.{IsNext}
 use Rattle.scr_log.proofs.tests.publish_when_free.Given as goal
 
 abbrev pub invariant-loop : goal.invariant-loop
 invariant-loop g l = record {
+  next : IsNext l.fn.logs.now l.pass l.fn.p;
   same : l.pass.logs ≡ l.fn.pass.logs;
   core : l.pass.core ≡ l.fn.pass.core;
-  published : l.pass.published ≡ l.fn.pass.published;
   finished : l.pass.finished ≡ l.fn.pass.finished;
 }

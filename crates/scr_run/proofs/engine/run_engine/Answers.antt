@@ -1,15 +1,14 @@
+use Rattle.std.proofs.Common.{sym, subst, Ok, Err}
 use Rattle.scr_pcap.proofs.OneReading.{same_readings}
-use Rattle.scr_run.proofs.Ending.{malformed, complete}
+use Rattle.scr_run.proofs.Ending.{malformed, complete, capture-asked}
 use Rattle.scr_run.proofs.engine.run_engine.Goals as goal
 
-pub returns-in-Ok-clause-malformed : goal.returns-in-Ok-clause-malformed
-returns-in-Ok-clause-malformed g c = λ bytes error told reading calm.
-    malformed _ g.S.Source.left g.S.Source.faults g.O.Sink.written g.O.Sink.faults _ _ _ _ _ bytes error (same_readings bytes) (rw c.in-Ok.is at c.run_cores.ensures.ends) told reading calm
+pub returns-clause-malformed : goal.returns-clause-malformed
+returns-clause-malformed g c = λ bytes error told reading calm.
+    malformed _ _ _ g.O.Sink.written g.O.Sink.faults g.O.Sink.wants _ _ _ _ c.of.result calm error
+    (capture-asked _ bytes (g.S.Source.left c.args.capture.now) (Err error) (same_readings bytes) told reading) (rw (← c.of.ensures) at c.run_cores.ensures.ends)
 
-pub returns-in-Err-clause-malformed : goal.returns-in-Err-clause-malformed
-returns-in-Err-clause-malformed g c = λ bytes error told reading calm.
-    malformed _ g.S.Source.left g.S.Source.faults g.O.Sink.written g.O.Sink.faults _ _ _ _ _ bytes error (same_readings bytes) (rw c.in-Err.is at c.run_cores.ensures.ends) told reading calm
-
-pub returns-in-Err-clause-complete : goal.returns-in-Err-clause-complete
-returns-in-Err-clause-complete g c = λ bytes records told reading calm calm_out.
-    complete _ g.S.Source.left g.S.Source.faults g.O.Sink.written g.O.Sink.faults _ _ _ _ _ bytes records (same_readings bytes) (rw c.in-Err.is at c.run_cores.ensures.ends) told reading calm calm_out
+pub returns-clause-complete : goal.returns-clause-complete
+returns-clause-complete g c = λ bytes records told reading calm calm_out.
+    complete _ _ _ g.O.Sink.written g.O.Sink.faults g.O.Sink.wants _ _ _ _ c.of.result calm records
+    (capture-asked _ bytes (g.S.Source.left c.args.capture.now) (Ok records) (same_readings bytes) told reading) calm_out (rw (← c.of.ensures) at c.run_cores.ensures.ends)

@@ -1,4 +1,4 @@
-use Rattle.std.proofs.Common.{◌≡◌, ◌++◌, ◌∷◌, [], List, All, ◌<◌, length, ◌∙◌, ap, arith, sym, subst}
+use Rattle.std.proofs.Common.{◌≡◌, ◌++◌, ◌∷◌, [], List, All, ◌<◌, length, ◌∙◌, ap, arith, sym, subst, refl}
 use Rattle.scr_plan.specs.declared.given.Given.{Given}
 use Rattle.scr_frame.specs.Fields.{fields}
 use Rattle.scr_pcap.specs.State.{ReaderState}
@@ -6,7 +6,10 @@ use Rattle.scr_replica.specs.OneCore.{undivided}
 use Rattle.scr_replica.proofs.Undivided.{verdicts-none, verdicts-push, length-verdicts}
 use Rattle.scr_replica.proofs.Counted.{verdicts-named}
 use Rattle.scr_run.specs.RunReport.{rows_of}
-use Rattle.scr_run.proofs.Progress.{HasTaken-none, HasTaken-more, length-rows_of}
+use Rattle.std.proofs.lemmas.Result.{err_from_is_err_and}
+use Rattle.scr_pcap.proofs.Joining.{IsReading-at_header}
+use Rattle.scr_run.proofs.Ending.{StopsReading-from, StopsReading-want, given-premise}
+use Rattle.scr_run.proofs.Progress.{HasTaken-none, HasTaken-fault, HasTaken-more, length-rows_of}
 use Rattle.scr_run.proofs.plain.one_core_answer.Goals as goal
 
 pub loop-core-init : goal.loop-core-init
@@ -15,7 +18,7 @@ loop-core-init g c = record {
       (c.new.ensures.items ∙ sym (verdicts-none (g.P.Program.verdict_after c.args.settings.now)), c.in_ok-fresh.ensures);
   reading = c.in_ok-reader.ensures.fresh.reading;
   few = omega (arith, c.in_ok-reader.ensures.fresh.none_taken);
-  faults = c.begin.ensures.later;
+  calm = c.in_ok-reader.ensures.counts.other (λ is. cc);
 }
 
 pub loop-core-preserved : goal.loop-core-preserved
@@ -35,7 +38,7 @@ loop-core-preserved g c =
           ));
       reading = ap (λ (s : ReaderState). s.progress) state ∙ was.reading;
       few = c.next.ensures.within;
-      faults = omega (arith, was.faults, c.next.ensures.later);
+      calm = (c.in_ok-info.ensures.counts was.reading).other (λ is. cc) ∙ was.calm;
     }
 
 pub returns-clause-few : goal.returns-clause-few
@@ -59,3 +62,33 @@ returns-clause-named g c =
     let laws = g.met.P.Program g.world.𝓛 g.world.𝓜 g.world.𝓡 ((λ s x. x), (λ x. x), (λ x. x), λ x. x) in
     subst (λ (given : List Given). All (λ given. given.verdict.0 < names) given) (sym taken.holds.0)
     (verdicts-named (g.P.Program.verdict_after c.args.settings.now) (undivided rows) names (laws.is_named c.args.settings.now))
+
+pub returns-in_err-reader-clause-stop : goal.returns-in_err-reader-clause-stop
+returns-in_err-reader-clause-stop g c =
+    let failed = err_from_is_err_and c.from_residual-in_err-reader.result c.from_residual-in_err-reader.ensures.1 in
+    rw failed.1 (StopsReading-from (g.S.Source.left c.args.capture.now) g.S.Source.faults _ _ _ _ failed.0 c.in_err-reader.ensures.counts refl
+    (λ other. IsReading-at_header (g.S.Source.left c.args.capture.now) _ (given-premise (g.S.Source.left c.args.capture.now) _ _ c.in_err-reader.ensures.refused other)) failed.2)
+
+pub returns-in_err-info-clause-stop : goal.returns-in_err-info-clause-stop
+returns-in_err-info-clause-stop g c =
+    let failed = err_from_is_err_and c.from_residual-in_err-info.result c.from_residual-in_err-info.ensures.1 in
+    let was = c.loop-core.invariant in
+    let taken = was.taken in
+    rw failed.1 (StopsReading-from (g.S.Source.left c.args.capture.now) g.S.Source.faults _ _ _ _ failed.0 (c.in_err-info.ensures.counts was.reading) was.calm
+    (λ other. HasTaken-fault (g.P.Program.row_of c.args.settings.now) _ _ _ _ _ _ taken was.few (c.in_err-info.ensures.faulty other was.reading)) failed.2)
+
+pub returns-in_err-take-clause-stop : goal.returns-in_err-take-clause-stop
+returns-in_err-take-clause-stop g c =
+    let failed = err_from_is_err_and c.from_residual-in_err-take.result c.from_residual-in_err-take.ensures.1 in
+    let was = c.loop-core.invariant in
+    rw failed.1 (StopsReading-want (g.S.Source.left c.args.capture.now) _ _ _ failed.0 ((c.in_ok-info.ensures.counts was.reading).other (λ is. cc) ∙ was.calm) failed.2)
+
+pub returns-clause-calm : goal.returns-clause-calm
+returns-clause-calm g c =
+    let was = c.loop-core.invariant in
+    (c.in_ok-info.ensures.counts was.reading).other (λ is. cc) ∙ was.calm
+
+pub returns-in_err-fresh-clause-stop : goal.returns-in_err-fresh-clause-stop
+returns-in_err-fresh-clause-stop g c =
+    let failed = err_from_is_err_and c.from_residual-in_err-fresh.result c.from_residual-in_err-fresh.ensures.1 in
+    rw failed.1 (StopsReading-want (g.S.Source.left c.args.capture.now) _ _ _ failed.0 (c.in_ok-reader.ensures.counts.other (λ is. cc)) failed.2)

@@ -1,5 +1,6 @@
 use Rattle.std.proofs.Common.{◌≡◌, ◌≤◌, ◌-◌}
 use Rattle.scr_pcap.specs.declared.reader.Progress.TheVariants.{Reading}
+use Rattle.scr_pcap.specs.Records.{RECORDS}
 use Rattle.scr_replica.specs.OneCore.{verdicts, undivided}
 use Rattle.scr_run.proofs.Progress.{HasTaken}
 use Rattle.scr_run.proofs.plain.one_core_answer.Given as goal
@@ -10,9 +11,9 @@ invariant-loop-core g l = record {
       (λ rows. (l.core.given.items ≡ verdicts (g.P.Program.verdict_after l.settings) (undivided rows)) × g.P.Program.StandsFor l.settings l.core.state rows)
       l.reader.format l.reader.taken (g.S.Source.left l.fn.capture) (g.S.Source.left l.capture);
   reading : l.reader.progress ≡ Reading;
-  few : l.reader.taken ≤ 1000000;
-  faults : g.S.Source.faults l.fn.capture ≤ g.S.Source.faults l.capture;
+  few : l.reader.taken ≤ RECORDS;
+  calm : g.S.Source.faults l.capture ≡ g.S.Source.faults l.fn.capture;
 }
 
 abbrev pub decreases-loop-core : goal.decreases-loop-core
-decreases-loop-core g l = 1000000 - l.reader.taken
+decreases-loop-core g l = RECORDS - l.reader.taken

@@ -1,13 +1,32 @@
+use Rattle.std.proofs.Common.{Ok, Err}
 use Rattle.scr_pcap.proofs.OneReading.{same_readings}
-use Rattle.scr_run.proofs.Main.{main-malformed, main-complete}
+use Rattle.scr_run.proofs.Ending.{malformed, complete, status-is, Ends-front}
+use Rattle.scr_run.proofs.Main.{asked-refused, asked-load, asked-capture, refused-takes, load-takes}
 use Rattle.scr_run.proofs.top.scr_main.Goals as goal
 
+pub returns-clause-front : goal.returns-clause-front
+returns-clause-front g c = Ends-front _ _ _ g.O.Sink.written g.O.Sink.faults g.O.Sink.wants _ _ _ _ _ c.run.ensures.ends
+
+pub returns-clause-words : goal.returns-clause-words
+returns-clause-words g c = λ fault refused.
+    status-is _ _ _ g.O.Sink.written g.O.Sink.faults g.O.Sink.wants _ _ _ _ _
+    (λ asked. asked-refused c.args.words.now (g.S.Source.left c.args.capture.now) asked fault refused)
+    (λ takes same. refused-takes c.args.words.now fault refused takes) (λ done. absurd cc) c.of-status.result (rw (← c.of-status.ensures) at c.run.ensures.ends)
+
 pub returns-clause-malformed : goal.returns-clause-malformed
-returns-clause-malformed g c = λ settings bytes error accepted asks told reading calm.
-    main-malformed c.args.words.now asks bytes g.S.Source.left g.S.Source.faults g.O.Sink.written g.O.Sink.faults _ _ _ _ settings accepted told
-    (same_readings bytes) calm c.run-status.result error reading c.run-status.ensures.ends
+returns-clause-malformed g c = λ bytes error takes told reading calm.
+    malformed _ _ _ g.O.Sink.written g.O.Sink.faults g.O.Sink.wants _ _ _ _ c.of-status.result calm error
+    (λ asked. asked-capture c.args.words.now (g.S.Source.left c.args.capture.now) asked bytes (Err error) (same_readings bytes) takes told reading)
+    (rw (← c.of-status.ensures) at c.run.ensures.ends)
 
 pub returns-clause-complete : goal.returns-clause-complete
-returns-clause-complete g c = λ settings bytes records accepted asks told reading calm calm_out.
-    main-complete c.args.words.now asks bytes g.S.Source.left g.S.Source.faults g.O.Sink.written g.O.Sink.faults _ _ _ _ settings accepted told
-    (same_readings bytes) calm c.run-status.result records reading calm_out c.run-status.ensures.ends
+returns-clause-complete g c = λ bytes records takes told reading calm calm_out.
+    complete _ _ _ g.O.Sink.written g.O.Sink.faults g.O.Sink.wants _ _ _ _ c.of-status.result calm records
+    (λ asked. asked-capture c.args.words.now (g.S.Source.left c.args.capture.now) asked bytes (Ok records) (same_readings bytes) takes told reading)
+    calm_out (rw (← c.of-status.ensures) at c.run.ensures.ends)
+
+pub returns-clause-complete_load : goal.returns-clause-complete_load
+returns-clause-complete_load g c = λ settings accepted makes calm_out.
+    status-is _ _ _ g.O.Sink.written g.O.Sink.faults g.O.Sink.wants _ _ _ _ _
+    (λ asked. asked-load c.args.words.now (g.S.Source.left c.args.capture.now) asked settings accepted makes)
+    (λ takes same. load-takes c.args.words.now settings accepted makes takes) (λ done. calm_out) c.of-status.result (rw (← c.of-status.ensures) at c.run.ensures.ends)

@@ -9,7 +9,7 @@ store-requires c =
     let same = ap (λ (p : OfCore). p.logs) c.pass.view_is ∙ c.requires.of_these ∙ sym c.self.view_is in
     let published : c.pass.inside.seat.me.0.published ≡ c.args.pass.now.published = ap (λ (p : OfCore). p.published) c.pass.view_is in
     let finished : c.pass.inside.seat.me.0.finished ≡ c.args.pass.now.finished = ap (λ (p : OfCore). p.finished) c.pass.view_is in
-    let current = c.requires.current in
+    let current = c.requires in
     let value = c.from.ensures in (
       ap (λ (l : LogsOf). l.table) same,
       subst (λ (l : LogsOf). c.finished_place-at.result < l.table.words) (sym c.self.view_is) c.finished_place-at.ensures.within,

@@ -9,14 +9,13 @@ use Rattle.scr_log.specs.Steps.{Mine, LoadsTagOf}
 use Rattle.scr_log.specs.Answers.{LookTells}
 use Rattle.scr_log.proofs.TagLoads.{loads_tag}
 use Rattle.scr_log.proofs.Calls.{place-from_zero}
-use Rattle.scr_log.proofs.LostToAll.{lost_to_all}
 use Rattle.scr_log.proofs.Looking.{reads, seen_after, tells_lost, tells_not_yet}
 use Rattle.scr_log.proofs.logs.Logs.look.Goals as goal
 use Rattle.scr_log.proofs.logs.Logs.look.Goals.{then-tag-number-2, else-tag-number-2}
 
 pub load-tag-requires : goal.load-tag-requires
 load-tag-requires c =
-    let same = ap (λ (p : OfCore). p.logs) c.pass.view_is ∙ c.requires.of_these ∙ sym c.self.view_is in
+    let same = ap (λ (p : OfCore). p.logs) c.pass.view_is ∙ c.requires.current.of_these ∙ sym c.self.view_is in
     let published : c.pass.inside.seat.me.0.published ≡ c.args.pass.now.published = ap (λ (p : OfCore). p.published) c.pass.view_is in
     let finished : c.pass.inside.seat.me.0.finished ≡ c.args.pass.now.finished = ap (λ (p : OfCore). p.finished) c.pass.view_is in
     let own : c.pass.inside.core ≡ c.args.pass.now.core = ap (λ (p : OfCore). p.core) c.pass.view_is in
@@ -40,7 +39,7 @@ read_row-requires-clause-reading c =
     let core : ℕ = c.args.core in
     let p : ℕ = c.args.p in
     let n : ℕ = c.load-tag.result in
-    let of_these = ap (λ (q : OfCore). q.logs) c.pass.view_is ∙ c.requires.of_these in
+    let of_these = ap (λ (q : OfCore). q.logs) c.pass.view_is ∙ c.requires.current.of_these in
     let plan : me.0.plan ≡ c.args.self.now.plan = ap (λ (l : LogsOf). l.plan) of_these in
     let slots : me.0.slots ≡ c.args.self.now.slots = ap (λ (l : LogsOf). l.slots) of_these in
     let finished : me.0.finished ≡ c.args.pass.now.finished = ap (λ (q : OfCore). q.finished) c.pass.view_is in
@@ -56,13 +55,13 @@ read_row-requires-clause-reading c =
     reads c.args.self.now c.load-tag.new.seat.table_id me c.load-tag.new.seat.me c.pass.inside.core core p n
     (c.load-tag.ensures.0 ∙ ap (λ (l : LogsOf). l.table) of_these) plan slots c.pass.invariant.its_core current loaded (omega arith)
 
-pub returns-after-tag-number-2-clause-answer : goal.returns-after-tag-number-2-clause-answer
-returns-after-tag-number-2-clause-answer c =
+pub returns-after-tag-number-2 : goal.returns-after-tag-number-2
+returns-after-tag-number-2 c =
     let me : Mine = c.pass.inside.seat.me in
     let core : ℕ = c.args.core in
     let p : ℕ = c.args.p in
     let n : ℕ = c.load-tag.result in
-    let of_these = ap (λ (q : OfCore). q.logs) c.pass.view_is ∙ c.requires.of_these in
+    let of_these = ap (λ (q : OfCore). q.logs) c.pass.view_is ∙ c.requires.current.of_these in
     let plan : me.0.plan ≡ c.args.self.now.plan = ap (λ (l : LogsOf). l.plan) of_these in
     let slots : me.0.slots ≡ c.args.self.now.slots = ap (λ (l : LogsOf). l.slots) of_these in
     let finished : me.0.finished ≡ c.args.pass.now.finished = ap (λ (q : OfCore). q.finished) c.pass.view_is in
@@ -91,9 +90,3 @@ returns-after-tag-number-2-clause-answer c =
             (λ is. w.if-tag-number-2.false (omega arith)))
       ],
     )
-
-pub returns-after-tag-number-2-clause-lost_to_all : goal.returns-after-tag-number-2-clause-lost_to_all
-returns-after-tag-number-2-clause-lost_to_all c =
-    let some : 1 ≤ c.args.self.now.plan.cores =
-    subst (λ (l : LogsOf). 1 ≤ l.plan.cores) c.self.view_is c.self.invariant.3.plan.a_core in
-    lost_to_all c.args.self.now.plan c.args.p some (let current = c.requires.current in omega arith)

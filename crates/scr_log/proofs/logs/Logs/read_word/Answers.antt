@@ -10,7 +10,7 @@ pub load-requires : goal.load-requires
 load-requires c =
     let reading = c.requires.reading in
     let few = c.requires.word in
-    let within : c.args.at + 1 + c.args.i < c.args.self.now.table.words = let all = c.requires.within in omega arith in (
+    let within : c.args.at + 1 + c.args.i < c.args.self.now.table.words = let all = c.requires.place.within in omega arith in (
       reading.of_these ∙ ap (λ (l : LogsOf). l.table) (sym c.self.view_is),
       subst (λ (l : LogsOf). c.args.at + 1 + c.args.i < l.table.words) (sym c.self.view_is) within,
       loads_word c.self.inside.table.shared.key.plan.value c.self.inside.table.shared.key.slots _ _ _ reading.own _
@@ -21,4 +21,4 @@ pub returns-clause-word : goal.returns-clause-word
 returns-clause-word c =
     word_read c.args.self.now c.args.seat.now.table_id c.args.seat.now.me c.args.core c.args.p c.args.at c.args.i _
     (step c.self.inside.table.shared.table_id.slots (c.args.at + 1 + c.args.i) 0 0 none)
-    c.requires.reading c.requires.place c.requires.word refl c.load.ensures.2.word
+    c.requires.reading c.requires.place.place c.requires.word refl c.load.ensures.2.word

@@ -10,7 +10,7 @@ use Rattle.scr_log.proofs.logs.Logs.store_tag.Goals as goal
 pub store-requires : goal.store-requires
 store-requires c =
     let homes : ℕ = c.self.inside.table.shared.table_id.slots in
-    let within : c.args.at < c.args.self.now.table.words = let all = c.requires.within in omega arith in (
+    let within : c.args.at < c.args.self.now.table.words = let all = c.requires.place.within in omega arith in (
       c.requires.may.of_these ∙ ap (λ (l : LogsOf). l.table) (sym c.self.view_is),
       subst (λ (l : LogsOf). c.args.at < l.table.words) (sym c.self.view_is) within,
       subst
@@ -18,5 +18,5 @@ store-requires c =
           (λ _. StoresTag (step homes c.args.at c.args.tag 0 none) c.args.seat.now.me c.args.tag))
           (sym c.self.view_is)
           (tag_allowed c.args.self.now c.args.seat.now.table_id homes c.args.seat.now.id c.args.seat.now.me c.args.core c.args.p c.args.at c.args.tag
-          c.requires.may c.requires.whole c.requires.tag c.requires.place),
+          c.requires.may c.requires.whole c.requires.tag c.requires.place.place),
     )

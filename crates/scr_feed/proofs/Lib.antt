@@ -1,0 +1,4 @@
+pub mod Due
+pub mod Feeds
+pub mod Tells
+pub mod Made

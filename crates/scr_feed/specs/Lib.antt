@@ -1,0 +1,4 @@
+pub mod Left
+pub mod Feeding
+pub mod Steps
+pub mod Made
