@@ -63,7 +63,9 @@ impl<A: Program, B: Second> Program for Chain<A, B> {
     fn fresh(alloc: Global, settings: &ChainSettings<A, B>) -> Result<Self::State, OutOfMemory> {
         let mut passes = [false; 256];
         for code in 0..A::names() {
-            passes[usize::from(code)] = A::name_of(Verdict(code)).is_some_and(|name| lets_go_on(name));
+            passes[usize::from(code)] = A::name_of(Verdict(code)).is_some_and(|name| lets_go_on(
+                name,
+            ));
         }
         Ok(ChainState {
             first: A::fresh(alloc, &settings.first)?,
@@ -97,8 +99,10 @@ impl<A: Program, B: Second> Program for Chain<A, B> {
     }
 
     fn flows(settings: &ChainSettings<A, B>, state: &Self::State) -> u64 {
-        A::flows(&settings.first, &state.first)
-            .saturating_add(B::flows(&settings.second, &state.second))
+        A::flows(&settings.first, &state.first).saturating_add(B::flows(
+            &settings.second,
+            &state.second,
+        ))
     }
 
     fn names() -> u8 {

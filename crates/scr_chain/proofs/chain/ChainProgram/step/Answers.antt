@@ -11,12 +11,11 @@ returns-then-not-state-from-clause-stands g c rows stands =
     let laws = g.met.A.Program in
     let settings = c.args.settings.now in
     let first : List Row → Row → Verdict = g.A.Program.verdict_after settings.first in
-    let given : c.in_ok-verdict.verdict ≡ first rows c.args.row.now = c.in_ok-verdict.ensures.verdict rows stands.0 in
-    (
+    let given : c.in_ok-verdict.verdict ≡ first rows c.args.row.now = c.in_ok-verdict.ensures.verdict rows stands.0 in (
       c.in_ok-verdict.ensures.stands rows stands.0,
       stands-stopped g.A.Program.verdict_names first (g.B.Program.StandsFor settings.second c.prepare.new.state) c.args.state.now.passes rows c.args.row.now
-      c.in_ok-verdict.verdict c.from.result c.from.ensures given (laws.is_named settings.first rows c.args.row.now) stands.2 c.if-not-state-from.true
-      (c.prepare.ensures.stands (passing g.A.Program.verdict_names first rows) stands.1),
+          c.in_ok-verdict.verdict c.from.result c.from.ensures given (laws.is_named settings.first rows c.args.row.now) stands.2 c.if-not-state-from.true
+          (c.prepare.ensures.stands (passing g.A.Program.verdict_names first rows) stands.1),
       stands.2,
     )
 
