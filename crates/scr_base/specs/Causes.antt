@@ -1,5 +1,5 @@
 -- How a stream counts: an error adds one to the count of its kind, and nothing else changes a count.
-use Rattle.std.specs.Prelude.{◌≡◌, ℕ, ◌+◌, ◌-◌, ◌^◌, ◌≤◌, min, Result, Err, OnOk, OnErr}
+use Rattle.std.specs.Prelude.{◌≡◌, ℕ, ◌+◌, ◌-◌, ◌^◌, min, Result, Err, OnOk, OnErr}
 use Rattle.scr_base.specs.declared.source.Failed.{Failed}
 use Rattle.scr_base.specs.declared.out_of_memory.OutOfMemory.{OutOfMemory}
 use Rattle.scr_base.specs.declared.sink.SinkError.{SinkError}
@@ -8,10 +8,6 @@ use Rattle.scr_base.specs.declared.sink.SinkError.TheVariants as sink_error
 -- a count, one higher; it stops at the last value of its type
 abbrev pub counted : ℕ → ℕ
 counted count = min (count + 1) (2 ^ 64 - 1)
-
--- a count rose, or stands at the last value of its type
-abbrev pub Rose : ℕ → ℕ → Type 0
-Rose before now = min (before + 1) (2 ^ 64 - 1) ≤ now
 
 -- a source, by its count before a call and after it, counts a failure that it answers, and nothing else
 pub record CountsFault {S T : Type 0} (faults : S → ℕ) (old new : S) (result : Result T Failed) : Type 0 where

@@ -5,6 +5,7 @@
 -- What the header of an IP packet says is the struct Packet of src/packet.rt.
 use Rattle.std.specs.Prelude.{ℕ, ◌+◌, ◌*◌, ◌/◌, ◌%◌, Bool, ◌&&◌, List, length, take, drop, slice_index, Option, Some, None, ◌==◌, nat_lt, nat_le, if◌then◌else◌}
 use Rattle.std.specs.Int.{Width, w16, w32, w128, byte_len, from_be_bytes}
+use Rattle.scr_frame.specs.Codes.{TYPE_IPV4, TYPE_IPV6, TYPE_TAG, TCP, UDP, ETHERNET_HEADER, TAGGED_HEADER, IPV4_WORDS, IPV4_HEADER, IPV6_HEADER, TCP_WORDS, TCP_HEADER, UDP_HEADER}
 use Rattle.scr_frame.specs.declared.packet.Packet.{Packet}
 use Rattle.scr_frame.specs.declared.parsed.Kind.{Kind}
 use Rattle.scr_frame.specs.declared.parsed.Kind.TheVariants.{Other, Bare, Tcp, Udp}
@@ -29,13 +30,13 @@ other = record {
 }
 
 -- Ethernet: the type, and the bytes behind it. Two addresses of six bytes stand before the type; a tag is four
--- bytes that begin with type 0x8100, and at most one is passed over.
+-- bytes that begin with a type of its own, and at most one is passed over.
 unfoldable pub ethernet : List ℕ → Option (ℕ × List ℕ)
 ethernet frame =
-    if nat_lt (length frame) 14 then None else
-    (if number_at w16 12 frame == 0x8100
-    then (if nat_lt (length frame) 18 then None else Some (number_at w16 16 frame, drop 18 frame))
-    else Some (number_at w16 12 frame, drop 14 frame))
+    if nat_lt (length frame) ETHERNET_HEADER then None else
+    (if number_at w16 12 frame == TYPE_TAG
+    then (if nat_lt (length frame) TAGGED_HEADER then None else Some (number_at w16 16 frame, drop TAGGED_HEADER frame))
+    else Some (number_at w16 12 frame, drop ETHERNET_HEADER frame))
 
 -- the length that a header tells, unless its field is 0, which stands for the captured bytes
 abbrev pub told_or_captured : ℕ → ℕ → List ℕ → ℕ
@@ -49,7 +50,7 @@ ipv4 bytes =
     let words = slice_index bytes 0 % 16 in
     let total = number_at w16 2 bytes in
     let packet_length = told_or_captured total total bytes in
-    if nat_le 20 (length bytes) && (slice_index bytes 0 / 16 == 4) && nat_le 5 words
+    if nat_le IPV4_HEADER (length bytes) && (slice_index bytes 0 / 16 == 4) && nat_le IPV4_WORDS words
     && nat_le (4 * words) (length bytes) && nat_le (4 * words) packet_length
     then Some (record {
       family = 0;
@@ -66,15 +67,15 @@ ipv4 bytes =
 -- next header at 6, source at 8, destination at 24
 unfoldable pub ipv6 : List ℕ → Option Packet
 ipv6 bytes =
-    if nat_le 40 (length bytes) && (slice_index bytes 0 / 16 == 6)
+    if nat_le IPV6_HEADER (length bytes) && (slice_index bytes 0 / 16 == 6)
     then Some (record {
       family = 1;
       source = number_at w128 8 bytes;
       destination = number_at w128 24 bytes;
       protocol = slice_index bytes 6;
       fragment = 0;
-      header = 40;
-      length = told_or_captured (number_at w16 4 bytes) (40 + number_at w16 4 bytes) bytes;
+      header = IPV6_HEADER;
+      length = told_or_captured (number_at w16 4 bytes) (IPV6_HEADER + number_at w16 4 bytes) bytes;
     })
     else None
 
@@ -98,15 +99,15 @@ with_transport kind packet source_port destination_port flags = record {
 }
 
 -- whether there is a TCP header, which has 20 bytes and a data offset of at least 5 in the high half of its byte 12.
--- TCP is protocol 6, and a fragment behind the first has no header of it.
+-- A fragment behind the first has no header of it.
 abbrev pub has_tcp : Packet → List ℕ → Bool
 has_tcp packet bytes =
-    (packet.fragment == 0) && (packet.protocol == 6) && holds_header 20 packet bytes
-    && nat_le 5 (slice_index (drop packet.header bytes) 12 / 16)
+    (packet.fragment == 0) && (packet.protocol == TCP) && holds_header TCP_HEADER packet bytes
+    && nat_le TCP_WORDS (slice_index (drop packet.header bytes) 12 / 16)
 
--- whether there is a UDP header, which has 8 bytes. UDP is protocol 17.
+-- whether there is a UDP header, which has 8 bytes
 abbrev pub has_udp : Packet → List ℕ → Bool
-has_udp packet bytes = (packet.fragment == 0) && (packet.protocol == 17) && holds_header 8 packet bytes
+has_udp packet bytes = (packet.fragment == 0) && (packet.protocol == UDP) && holds_header UDP_HEADER packet bytes
 
 -- TCP: ports at 0 and 2, flags in byte 13. UDP: ports at 0 and 2.
 unfoldable pub transport : Packet → List ℕ → Parsed
@@ -127,8 +128,8 @@ packet_or_other (Some packet) bytes = transport packet bytes
 abbrev pub network : Option (ℕ × List ℕ) → Parsed
 network None = other
 network (Some (ethertype, bytes)) =
-    if ethertype == 0x0800 then packet_or_other (ipv4 bytes) bytes
-    else (if ethertype == 0x86DD then packet_or_other (ipv6 bytes) bytes else other)
+    if ethertype == TYPE_IPV4 then packet_or_other (ipv4 bytes) bytes
+    else (if ethertype == TYPE_IPV6 then packet_or_other (ipv6 bytes) bytes else other)
 
 -- the fields of a frame
 unfoldable pub fields : List ℕ → Parsed

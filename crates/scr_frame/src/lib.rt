@@ -15,11 +15,13 @@
 //! behind the first are not looked into, and no checksum is tested.
 #![tactic(auto)]
 
+mod codes;
 mod number;
 mod packet;
 mod parsed;
 mod parsing;
 
+pub use codes::LONGEST_FRAME;
 pub use parsed::{Kind, Parsed};
 pub use parsing::parse;
 

@@ -1,6 +1,7 @@
 ghost use Rattle.std.specs.Prelude.{◌≡◌, ◌≤◌, length};
 ghost use Rattle.scr_frame.specs.Fields.{told_or_captured, ipv4, ipv6, with_transport};
 
+use crate::codes::{IPV4_HEADER, IPV6_HEADER, LONGEST_FRAME};
 use crate::number::{u16_at, u32_at, u128_at};
 use crate::parsed::{Kind, Parsed};
 
@@ -48,7 +49,7 @@ impl Packet {
 
 /// The length that a header tells, where its field isn't 0, and else the captured bytes.
 fn told_or_captured(field: u16, told: u32, bytes: &[u8]) -> u32
-    requires { length bytes.now ≤ 262144 }
+    requires { length bytes.now ≤ LONGEST_FRAME }
     ensures { result ≡ told_or_captured field told bytes.now }
 {
     if field == 0 { bytes.len() as u32 } else { told }
@@ -58,16 +59,16 @@ fn told_or_captured(field: u16, told: u32, bytes: &[u8]) -> u32
 #[tactic(auto, unfolding(crate::specs::Fields::ipv4))]
 #[inline(always)]
 pub(crate) fn ipv4(bytes: &[u8]) -> Option<Packet>
-    requires { length bytes.now ≤ 262144 }
+    requires { length bytes.now ≤ LONGEST_FRAME }
     ensures { result ≡ ipv4 bytes.now }
 {
-    if bytes.len() < 20 || bytes[0] >> 4 != 4 {
+    if bytes.len() < usize::from(IPV4_HEADER) || bytes[0] >> 4 != 4 {
         return None;
     }
     let header = 4 * (bytes[0] & 0x0F);
     let total = u16_at(bytes, 2);
     let length = told_or_captured(total, u32::from(total), bytes);
-    if header < 20 || bytes.len() < usize::from(header) || length < u32::from(header) {
+    if header < IPV4_HEADER || bytes.len() < usize::from(header) || length < u32::from(header) {
         return None;
     }
     Some(Packet {
@@ -85,10 +86,10 @@ pub(crate) fn ipv4(bytes: &[u8]) -> Option<Packet>
 #[tactic(auto, unfolding(crate::specs::Fields::ipv6))]
 #[inline(never)]
 pub(crate) fn ipv6(bytes: &[u8]) -> Option<Packet>
-    requires { length bytes.now ≤ 262144 }
+    requires { length bytes.now ≤ LONGEST_FRAME }
     ensures { result ≡ ipv6 bytes.now }
 {
-    if bytes.len() < 40 || bytes[0] >> 4 != 6 {
+    if bytes.len() < usize::from(IPV6_HEADER) || bytes[0] >> 4 != 6 {
         return None;
     }
     let payload = u16_at(bytes, 4);
@@ -98,7 +99,7 @@ pub(crate) fn ipv6(bytes: &[u8]) -> Option<Packet>
         destination: u128_at(bytes, 24),
         protocol: bytes[6],
         fragment: 0,
-        header: 40,
-        length: told_or_captured(payload, 40 + u32::from(payload), bytes),
+        header: IPV6_HEADER,
+        length: told_or_captured(payload, u32::from(IPV6_HEADER) + u32::from(payload), bytes),
     })
 }

@@ -2,19 +2,13 @@ ghost use Rattle.std.specs.Prelude.{◌≡◌, ◌≤◌, length, IfSome};
 ghost use Rattle.std.specs.Option.{option_map};
 ghost use Rattle.scr_frame.specs.Fields.{ethernet, transport, fields};
 
+use crate::codes::{
+    ETHERNET_HEADER, LONGEST_FRAME, TAGGED_HEADER, TCP, TCP_HEADER, TCP_WORDS, TYPE_IPV4,
+    TYPE_IPV6, TYPE_TAG, UDP, UDP_HEADER,
+};
 use crate::number::u16_at;
 use crate::packet::{Packet, ipv4, ipv6};
 use crate::parsed::{Kind, Parsed};
-
-const TYPE_IPV4: u16 = 0x0800;
-
-const TYPE_IPV6: u16 = 0x86DD;
-
-const TYPE_TAG: u16 = 0x8100;
-
-const TCP: u8 = 6;
-
-const UDP: u8 = 17;
 
 const OTHER: Parsed = Parsed {
     kind: Kind::Other,
@@ -32,7 +26,7 @@ const OTHER: Parsed = Parsed {
 #[tactic(auto, unfolding(crate::specs::Fields::fields))]
 #[inline(always)]
 pub fn parse(bytes: &[u8]) -> Parsed
-    requires { length bytes.now ≤ 262144 }
+    requires { length bytes.now ≤ LONGEST_FRAME }
     ensures { result ≡ fields bytes.now }
 {
     let Some((ethertype, bytes)) = ethernet(bytes) else {
@@ -56,17 +50,17 @@ fn ethernet(frame: &[u8]) -> Option<(u16, &[u8])>
     ensures parts { option_map (λ x. (x.0, x.1.now)) result ≡ ethernet frame.now }
     ensures shorter { IfSome result (λ x. length x.1.now ≤ length frame.now) }
 {
-    if frame.len() < 14 {
+    if frame.len() < ETHERNET_HEADER {
         return None;
     }
     let ethertype = u16_at(frame, 12);
     if ethertype != TYPE_TAG {
-        return Some((ethertype, &frame[14..]));
+        return Some((ethertype, &frame[ETHERNET_HEADER..]));
     }
-    if frame.len() < 18 {
+    if frame.len() < TAGGED_HEADER {
         return None;
     }
-    Some((u16_at(frame, 16), &frame[18..]))
+    Some((u16_at(frame, 16), &frame[TAGGED_HEADER..]))
 }
 
 /// The packet, and what its transport header says, if that is looked at and whole.
@@ -78,11 +72,14 @@ fn transport(packet: &Packet, bytes: &[u8]) -> Parsed
     let start = usize::from(packet.header);
     let end = bytes.len().min(packet.length as usize);
     match packet.protocol {
-        TCP if packet.fragment == 0 && start + 20 <= end && bytes[start + 12] >> 4 >= 5 => {
+        TCP
+            if packet.fragment == 0
+                && start + TCP_HEADER <= end
+                && bytes[start + 12] >> 4 >= TCP_WORDS => {
             let header = &bytes[start..];
             packet.with_transport(Kind::Tcp, u16_at(header, 0), u16_at(header, 2), header[13])
         }
-        UDP if packet.fragment == 0 && start + 8 <= end => {
+        UDP if packet.fragment == 0 && start + UDP_HEADER <= end => {
             let header = &bytes[start..];
             packet.with_transport(Kind::Udp, u16_at(header, 0), u16_at(header, 2), 0)
         }

@@ -193,15 +193,12 @@ fn by_two_threads<R: Threads + Wait + Sync>(
     let (Ok(zero), Ok(one)) = (logs.claim(first), logs.claim(main)) else {
         return Ok(false);
     };
-    let logs = &logs;
-    Ok(thread::scope(thread::scope_env(), rt, |scope| {
-        let other = scope.spawn(move || go_through(rt, logs, plan, zero, of_one));
-        if other.is_err() {
-            return false;
-        }
-        go_through(rt, logs, plan, one, of_zero);
-        true
-    }))
+    thread::join(
+        rt,
+        || go_through(rt, &logs, plan, zero, of_one),
+        || go_through(rt, &logs, plan, one, of_zero),
+    );
+    Ok(true)
 }
 
 #[test]

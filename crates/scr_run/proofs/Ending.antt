@@ -1,9 +1,9 @@
 -- How the end of a run follows from the ends of its parts, and what it tells of the status.
-use Rattle.std.proofs.Common.{◌≡◌, ◌⊎◌, ℕ, List, [], ◌++◌, Option, Some, None, Result, Ok, Err, IfSome, MatchResult, refl, sym, ap, ◌∙◌, subst, inl, inr, arith}
+use Rattle.std.proofs.Common.{◌≡◌, ◌⊎◌, ℕ, List, [], Option, Some, None, Result, Ok, Err, IfSome, MatchResult, refl, sym, ap, ◌∙◌, subst, inl, inr}
 use Rattle.std.specs.Io.KnownBytes.{Appends}
 use Rattle.std.proofs.lemmas.List.{append-nil}
 use Rattle.scr_base.specs.Causes.{counted, CountsError}
-use Rattle.scr_base.specs.Streams.{AppendsPrefix, StopsWithin, WritesText}
+use Rattle.scr_base.specs.Streams.{AppendsPrefix, WritesText}
 use Rattle.scr_base.specs.declared.sink.SinkError.{SinkError}
 use Rattle.scr_base.specs.declared.sink.SinkError.TheVariants as sink
 use Rattle.scr_base.specs.declared.out_of_memory.OutOfMemory as memory

@@ -1,5 +1,5 @@
 -- How a run over a capture that is made up ends: a text is asked for, and no read fails.
-use Rattle.std.proofs.Common.{◌≡◌, ℕ, List, Option, Some, Result, Ok, Err, refl, arith}
+use Rattle.std.proofs.Common.{◌≡◌, ℕ, List, Option, Some, Result, Ok, refl, arith}
 use Rattle.scr_pcap.specs.Records.{Record}
 use Rattle.scr_pcap.specs.Reading.{IsReading}
 use Rattle.scr_pcap.specs.declared.error.CaptureError.{CaptureError}

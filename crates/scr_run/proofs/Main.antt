@@ -1,5 +1,5 @@
 -- How the whole program ends, from how the run of its command ended; and which status the words and the capture ask for.
-use Rattle.std.proofs.Common.{◌≡◌, ◌⊎◌, inl, inr, ℕ, Bool, true, false, List, [], ◌∷◌, Option, Some, Result, Ok, Err, refl, sym, ap, ◌∙◌, subst}
+use Rattle.std.proofs.Common.{◌≡◌, inl, inr, ℕ, Bool, true, false, List, [], ◌∷◌, Option, Some, Result, refl, sym, ap, ◌∙◌, subst}
 use Rattle.std.specs.Option.{option_map_or}
 use Rattle.scr_pcap.specs.Generated.{generated_records}
 use Rattle.scr_pcap.specs.Records.{Record}
@@ -18,7 +18,7 @@ use Rattle.scr_words.specs.GivenSettings.{AreAccepted}
 use Rattle.scr_words.proofs.OneAnswer.{AreAccepted-not_refused, AreRefused-same}
 use Rattle.scr_run.specs.declared.status.Status.{Status}
 use Rattle.scr_run.specs.declared.status.Status.TheVariants.{Done, Words}
-use Rattle.scr_run.specs.Asked.{IsOfCapture, IsByCommand, IsBySettings, IsAsked, AreForNothing, AreForRun, TakeCapture, text_for}
+use Rattle.scr_run.specs.Asked.{IsOfCapture, IsByCommand, IsBySettings, IsAsked, TakeCapture, text_for}
 use Rattle.scr_run.specs.Ends.{Ends, IsText, status_of_words}
 use Rattle.scr_run.proofs.Ending.{Ends-through, status_asked, status_read, status_asked-by, IsOfCapture-by}
 

@@ -1,5 +1,5 @@
 -- The report that is written is that of the capture.
-use Rattle.std.proofs.Common.{◌≡◌, ℕ, List, Option, Result, Ok, IfSome, ap}
+use Rattle.std.proofs.Common.{◌≡◌, ℕ, List, Option, Ok, IfSome, ap}
 use Rattle.scr_base.specs.declared.row.Row.{Row}
 use Rattle.scr_pcap.specs.Records.{Record}
 use Rattle.scr_pcap.specs.Reading.{IsReading}
@@ -8,7 +8,6 @@ use Rattle.scr_plan.specs.declared.drops.DropRange.{DropRange}
 use Rattle.scr_plan.specs.declared.given.Given.{Given}
 use Rattle.scr_plan.specs.Plan.{Plan}
 use Rattle.scr_report.specs.Outcome.{Outcome, report_of, totals_of}
-use Rattle.scr_run.specs.declared.status.Status.{Status}
 use Rattle.scr_run.specs.Asked.{IsOfCapture}
 
 -- an outcome by its parts

@@ -44,7 +44,8 @@ pub use laws::plain_without_drops;
 pub use names::names_of;
 pub use plain::plain_run;
 pub use scr_words::{
-    Command, ProgramSettings, RunSettings, Shape, WordCause, WordFault, WordsError, read_words,
+    Command, ProgramSettings, RunSettings, Shape, WordCause, WordFault, WordsError, one_answer,
+    put_word_line, read_words, some_answer,
 };
 pub use status::Status;
 pub use top::scr_main;

@@ -4,6 +4,6 @@ use Rattle.scr_bench.proofs.logged.entry_of.Given as goal
 
 abbrev pub invariant-loop : goal.invariant-loop
 invariant-loop g l = record {
-  current : IsCurrent l.fn.logs.now l.pass l.fn.p;
+  current : IsCurrent l.fn.logs l.pass l.fn.p;
   core : l.pass.core ≡ l.fn.pass.core;
 }

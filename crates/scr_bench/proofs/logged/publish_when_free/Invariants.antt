@@ -4,6 +4,6 @@ use Rattle.scr_bench.proofs.logged.publish_when_free.Given as goal
 
 abbrev pub invariant-loop : goal.invariant-loop
 invariant-loop g l = record {
-  next : IsNext l.fn.logs.now l.pass l.fn.p;
+  next : IsNext l.fn.logs l.pass l.fn.p;
   core : l.pass.core ≡ l.fn.pass.core;
 }

@@ -1,4 +1,5 @@
 use Rattle.std.proofs.Common.{◌≡◌, ℕ, suc, List, [], ◌∷◌, ◌++◌, length, map, drop, Option, Some, None, refl, sym, ap, ◌∙◌, append_assoc, arith}
+use Rattle.std.proofs.lemmas.List.{length_push}
 use Rattle.std.specs.Option.{option_to_list}
 use Rattle.std.specs.String.{string_bytes}
 use Rattle.std.specs.Vec.Iter.{into_iter_items}
@@ -22,11 +23,15 @@ one_more f all words words' rest rest' x word so_far parts put same =
 
 pub loop-argument-init : goal.loop-argument-init
 loop-argument-init c = record {
-  words = behind_first string_bytes c.next-_name.result (into_iter_items c.args.all) (into_iter_items c.next-_name.new.self) c.next-_name.ensures.items
-      (λ none. (let cases = rw none at c.next-_name.ensures.cases in omega (arith, cases.0, c.args.all.rest.ok.0)))
-      ∙ ap (λ words. words ++ map string_bytes (into_iter_items c.next-_name.new.self)) (sym c.new-words.ensures.items);
+  words = behind_first string_bytes c.next-name.result (into_iter_items c.args.all) (into_iter_items c.next-name.new.self) c.next-name.ensures.items
+      (λ none. (let cases = rw none at c.next-name.ensures.cases in omega (arith, cases.0, c.args.all.rest.ok.0)))
+      ∙ ap (λ words. words ++ map string_bytes (into_iter_items c.next-name.new.self)) (sym c.new-words.ensures.items);
   few = omega (arith, ap length c.new-words.ensures.items);
 }
 
 pub loop-argument-preserved : goal.loop-argument-preserved
-loop-argument-preserved c = ?
+loop-argument-preserved c = record {
+  words = one_more string_bytes _ c.loop-argument.words.items c.put_word.new.words.items (into_iter_items c.loop-argument.all) (into_iter_items c.next.new.self)
+      c.in-Some.argument c.deref.result.now c.loop-argument.invariant.words c.in-Some.ensures.items c.in_ok-put_word.ensures c.deref.ensures;
+  few = omega (arith, ap length c.in_ok-put_word.ensures, length_push c.loop-argument.words.items c.deref.result.now, c.if-len-ge-MOST_WORDS.false, c.len.ensures);
+}

@@ -1,8 +1,7 @@
-use Rattle.std.proofs.Common.{Some, Ok, ap, ◌∙◌, subst, refl, ℕ, List}
-use Rattle.scr_pcap.specs.Generated.{generated, generated_records}
-use Rattle.scr_pcap.specs.Reading.{IsReading}
+use Rattle.std.proofs.Common.{Some, ap, refl, ℕ, List}
+use Rattle.scr_pcap.specs.Generated.{generated_records}
 use Rattle.scr_pcap.proofs.OneReading.{same_readings}
-use Rattle.scr_run.specs.Ends.{IsText, ended}
+use Rattle.scr_run.specs.Ends.{ended}
 use Rattle.scr_run.proofs.Loading.{Ends-of_load}
 use Rattle.scr_run.proofs.commands.run_load.Goals as goal
 

@@ -1,5 +1,4 @@
-use Rattle.std.proofs.Common.{◌≡◌, ◌<◌, ℕ, List, All, length, ap, ◌∙◌, sym, subst, refl}
-use Rattle.std.specs.Io.KnownBytes.{IsAtEnd}
+use Rattle.std.proofs.Common.{◌≡◌, ◌<◌, List, All, length, ap, ◌∙◌, sym, subst, refl}
 use Rattle.std.proofs.lemmas.Result.{err_from_is_err_and}
 use Rattle.scr_plan.specs.declared.given.Given.{Given}
 use Rattle.scr_plan.specs.Plan.{Plan, frame_count}
@@ -8,7 +7,6 @@ use Rattle.scr_replica.proofs.Counted.{length-verdicts-delivered, verdicts-named
 use Rattle.scr_report.specs.Outcome.{Outcome, report_of, report_text, totals_of}
 use Rattle.scr_run.specs.Rules.{Rules, ruled_by}
 use Rattle.scr_run.specs.RunReport.{rows_of, outcome_of, shaped_text}
-use Rattle.scr_run.specs.Asked.{IsOfCapture}
 use Rattle.scr_run.specs.Ends.{ended}
 use Rattle.scr_run.proofs.Ending.{Ends-behind, Ends-stopped}
 use Rattle.scr_run.proofs.Written.{plan-of, IsOfCapture-from}

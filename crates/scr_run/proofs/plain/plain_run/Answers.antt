@@ -1,4 +1,4 @@
-use Rattle.std.proofs.Common.{sym, subst, Ok, Err}
+use Rattle.std.proofs.Common.{Ok, Err}
 use Rattle.scr_pcap.proofs.OneReading.{same_readings}
 use Rattle.scr_run.proofs.Ending.{malformed, complete, capture-asked}
 use Rattle.scr_run.proofs.plain.plain_run.Goals as goal

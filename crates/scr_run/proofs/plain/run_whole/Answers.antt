@@ -1,4 +1,4 @@
-use Rattle.std.proofs.Common.{◌≡◌, ◌<◌, true, List, All, length, ap, ◌∙◌, sym, subst, arith, refl, [], ℕ}
+use Rattle.std.proofs.Common.{◌≡◌, ◌<◌, true, List, All, length, ap, ◌∙◌, sym, subst, arith, refl, []}
 use Rattle.scr_plan.specs.declared.given.Given.{Given}
 use Rattle.std.proofs.lemmas.Result.{err_from_is_err_and}
 use Rattle.scr_plan.specs.Plan.{frame_count}
