@@ -1,6 +1,7 @@
 -- What a core's log says of a packet in the end: a tag, which holds the packet's number and whether there is a row, and
 -- the words of the row.
-use Rattle.std.specs.Prelude.{ℕ, ◌+◌, ◌*◌, ◌/◌, List, [], ◌∷◌, Option, Some, None, slice_index}
+use Rattle.std.specs.Prelude.{ℕ, ◌+◌, ◌*◌, ◌/◌, Option, Some, None, slice_index}
+use Rattle.scr_base.specs.RowWords.{row_words}
 use Rattle.scr_base.specs.declared.row.Row.{Row}
 use Rattle.scr_plan.specs.Plan.{Plan}
 use Rattle.scr_plan.specs.FinalEntry.{final_entry}
@@ -16,10 +17,7 @@ lost_tag p = 4 * p + 2
 abbrev pub tag_number : ℕ → ℕ
 tag_number tag = tag / 4
 
--- the words of a row
-abbrev pub row_words : Row → List ℕ
-row_words row = row.w0 ∷ row.w1 ∷ row.w2 ∷ row.w3 ∷ row.w4 ∷ row.w5 ∷ row.w6 ∷ []
-
+-- a word of a row
 abbrev pub row_word : Row → ℕ → ℕ
 row_word row i = slice_index (row_words row) i
 

@@ -8,12 +8,13 @@ use Rattle.std.proofs.lemmas.List.Elements.{All-nil, All-cons}
 use Rattle.byteorder.specs.Endian.{big_bytes}
 use Rattle.byteorder.specs.Numbers.{big_from-lt}
 use Rattle.scr_base.specs.declared.row.Row.{Row}
-use Rattle.scr_wire.specs.Spelling.{words, row_bytes, rows_bytes, IsRow}
+use Rattle.scr_base.specs.RowWords.{row_words}
+use Rattle.scr_wire.specs.Spelling.{row_bytes, rows_bytes, IsRow}
 use Rattle.scr_wire.specs.Reading.{word_at, row_in, rows_in}
 use Rattle.scr_wire.proofs.WordsRead.{IsBytes, IsBytes-drop, words_in, words_back, words_again}
 
 -- the words of the row in front
-words_of_row_in : (bytes : List ℕ) → words (row_in bytes) ≡ words_in 7 bytes
+words_of_row_in : (bytes : List ℕ) → row_words (row_in bytes) ≡ words_in 7 bytes
 unfolding word_at row_in words_in
 words_of_row_in bytes = simp drop-drop refl
 
@@ -21,7 +22,7 @@ words_of_row_in bytes = simp drop-drop refl
 row_of : List ℕ → Row
 row_of ws = record { w0 = get_or ws 0 0; w1 = get_or ws 1 0; w2 = get_or ws 2 0; w3 = get_or ws 3 0; w4 = get_or ws 4 0; w5 = get_or ws 5 0; w6 = get_or ws 6 0 }
 
-same_row : (one other : Row) → words one ≡ words other → one ≡ other
+same_row : (one other : Row) → row_words one ≡ row_words other → one ≡ other
 unfolding row_of
 same_row one other e = ap row_of e
 

@@ -4,6 +4,7 @@
 use Rattle.std.specs.Prelude.{◌≡◌, ℕ, ◌<◌, ◌^◌, List, [], ◌∷◌, ◌++◌, length, All, IsTrue}
 use Rattle.std.specs.List.{flat_map, AllByRecursion}
 use Rattle.byteorder.specs.Endian.{big_bytes}
+use Rattle.scr_base.specs.RowWords.{row_words}
 use Rattle.scr_base.specs.declared.row.Row.{Row}
 use Rattle.scr_wire.specs.declared.message.Message.{Message}
 use Rattle.scr_wire.specs.declared.message.Message.TheVariants.{Frame, Beacon, End}
@@ -26,11 +27,8 @@ rows_of (Frame number rows) = rows
 rows_of (Beacon number) = []
 rows_of (End number) = []
 
-abbrev pub words : Row → List ℕ
-words row = row.w0 ∷ row.w1 ∷ row.w2 ∷ row.w3 ∷ row.w4 ∷ row.w5 ∷ row.w6 ∷ []
-
 unfoldable pub row_bytes : Row → List ℕ
-row_bytes row = flat_map (big_bytes 8) (words row)
+row_bytes row = flat_map (big_bytes 8) (row_words row)
 
 abbrev pub rows_bytes : List Row → List ℕ
 rows_bytes rows = flat_map row_bytes rows
@@ -43,7 +41,7 @@ spelling message = header_bytes (kind_of message) (number_of message) (length (r
 
 -- words of 64 bits
 unfoldable pub IsRow : Row → Type 0
-IsRow row = AllByRecursion (λ word. word < 2 ^ 64) (words row)
+IsRow row = AllByRecursion (λ word. word < 2 ^ 64) (row_words row)
 
 -- which messages have a spelling
 pub record HasSpelling (message : Message) : Type 0 where
