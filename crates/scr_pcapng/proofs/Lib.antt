@@ -1,0 +1,4 @@
+pub mod Heads
+pub mod Fronts
+pub mod OneReading
+pub mod SomeReading
