@@ -1,16 +1,16 @@
 -- A block in front of other bytes, and when there is none.
-use Rattle.std.proofs.Common.{◌≡◌, ◌≢◌, ◌⊎◌, ℕ, ◌+◌, ◌-◌, ◌≤◌, ◌<◌, Bool, true, false, not, List, [], ◌∷◌, ◌++◌, length, take, drop, Option, Some, None, Result, Ok, Err, ◌==◌, nat_lt, if◌then◌else◌, refl, sym, ap, subst, ◌∙◌, inl, inr, arith}
-use Rattle.std.proofs.lemmas.Bool.{cases_Bool, eqb-false, eqb-true, le-ltb, lt-ltb, ltb-false, ne_eqb, not-false, not-true}
+use Rattle.std.proofs.Common.{◌≡◌, ◌≢◌, ℕ, ◌-◌, ◌≤◌, Bool, true, false, not, List, [], ◌++◌, length, take, drop, Option, Some, None, Result, Ok, Err, ◌==◌, nat_lt, if◌then◌else◌, refl, sym, ap, subst, ◌∙◌, arith}
+use Rattle.std.proofs.lemmas.Bool.{eqb-false, le-ltb, ltb-false, not-false}
 use Rattle.std.proofs.lemmas.List.{append-nil, length-append, length-take-le, take-append-drop}
-use Rattle.std.proofs.Math.Seq.{take-append_seam, take-length}
+use Rattle.std.proofs.Math.Seq.{take-append_seam}
 use Rattle.scr_pcap.specs.declared.format.Order.{Order}
 use Rattle.scr_pcap.specs.Header.{number_at}
 use Rattle.scr_pcapng.specs.declared.content.Content.{Content}
 use Rattle.scr_pcapng.specs.declared.error.NgError.{NgError}
-use Rattle.scr_pcapng.specs.declared.error.NgError.TheVariants.{Cut, Mark, Length, TooManyBlocks}
+use Rattle.scr_pcapng.specs.declared.error.NgError.TheVariants.{Cut, Length, TooManyBlocks}
 use Rattle.scr_pcapng.specs.declared.kind.Kind.{Kind}
 use Rattle.scr_pcapng.specs.Contents.{Position, content_in, number_of}
-use Rattle.scr_pcapng.specs.Blocks.{BLOCKS, Block, IsBlock, block_in, closed, framed, front_of, is_total, kind_in, least, order_in, ordered, sized, told_by, total_in}
+use Rattle.scr_pcapng.specs.Blocks.{BLOCKS, Block, IsBlock, block_in, closed, framed, front_of, is_total, kind_in, order_in, ordered, sized, told_by, total_in}
 use Rattle.scr_pcapng.specs.Parts.{IsHead}
 use Rattle.scr_pcapng.specs.Reading.{NoBlock}
 use Rattle.scr_pcapng.proofs.Heads.{IsHead-append, IsHead-front, block_in-sized, front_of-within, is_total-least}

@@ -1,17 +1,16 @@
 -- The head of a block doesn't change when bytes follow it.
-use Rattle.std.proofs.Common.{◌≡◌, ◌≢◌, ℕ, ◌+◌, ◌≤◌, ◌<◌, Bool, true, false, ◌&&◌, not, List, [], ◌∷◌, ◌++◌, length, take, drop, Option, Some, None, Result, Ok, Err, ◌==◌, nat_lt, nat_le, if◌then◌else◌, refl, sym, ap, subst, ◌∙◌, inl, inr, arith, rules, tests}
+use Rattle.std.proofs.Common.{◌≡◌, ◌≢◌, ℕ, ◌≤◌, ◌<◌, true, false, List, ◌++◌, length, Option, Some, None, Err, ◌==◌, nat_lt, if◌then◌else◌, refl, sym, ap, subst, ◌∙◌, arith, rules, tests}
 use Rattle.std.proofs.lemmas.Bool.{and_parts, leb-true, le-ltb, lt-ltb, ne_eqb}
 use Rattle.std.proofs.lemmas.List.{length-append}
 use Rattle.scr_pcap.specs.declared.format.Order.{Order}
 use Rattle.scr_pcap.specs.declared.format.Order.TheVariants.{Little, Big}
 use Rattle.scr_pcap.specs.Header.{number_at}
 use Rattle.scr_pcap.proofs.FirstBytes.{number_at-append}
-use Rattle.scr_pcapng.specs.declared.error.NgError.{NgError}
 use Rattle.scr_pcapng.specs.declared.error.NgError.TheVariants.{Cut, Mark, Length, TooManyBlocks}
 use Rattle.scr_pcapng.specs.declared.kind.Kind.{Kind}
 use Rattle.scr_pcapng.specs.declared.kind.Kind.TheVariants.{SectionHeader, InterfaceDescription, SimplePacket, EnhancedPacket, Other}
 use Rattle.scr_pcapng.specs.Contents.{Position, number_of}
-use Rattle.scr_pcapng.specs.Blocks.{BLOCKS, Block, kind_of, least, front_of, kind_in, marked_order, order_in, total_in, is_total, ordered, sized, block_in}
+use Rattle.scr_pcapng.specs.Blocks.{BLOCKS, kind_of, least, front_of, kind_in, marked_order, order_in, total_in, is_total, ordered, sized, block_in}
 use Rattle.scr_pcapng.specs.Parts.{IsHead}
 
 -- eight bytes at least tell the total length, and no block is shorter than what tells it

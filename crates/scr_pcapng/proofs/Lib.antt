@@ -1,3 +1,4 @@
+pub mod Taken
 pub mod Heads
 pub mod Fronts
 pub mod OneReading

@@ -1,5 +1,5 @@
 -- A list of bytes has one reading.
-use Rattle.std.proofs.Common.{◌≡◌, ℕ, ◌≤◌, Bool, true, false, List, [], ◌∷◌, ◌++◌, length, Result, Ok, Err, MatchBool, refl, sym, ap, subst, ◌∙◌, arith}
+use Rattle.std.proofs.Common.{◌≡◌, ℕ, Bool, true, false, List, [], ◌∷◌, ◌++◌, length, Result, Ok, Err, MatchBool, refl, sym, ap, subst, ◌∙◌, arith}
 use Rattle.std.proofs.lemmas.List.{length-append}
 use Rattle.std.specs.List.{flat_map}
 use Rattle.scr_pcap.specs.Records.{Record}
@@ -9,7 +9,7 @@ use Rattle.scr_pcapng.specs.declared.error.AnyError.{AnyError}
 use Rattle.scr_pcapng.specs.declared.error.AnyError.TheVariants.{Classic, Ng, ReadFault, OutOfMemory}
 use Rattle.scr_pcapng.specs.Contents.{Position, position_behind}
 use Rattle.scr_pcapng.specs.Blocks.{Block, IsBlock, block_in}
-use Rattle.scr_pcapng.specs.Reading.{BeginWith, IsBlockReading, IsClassicReading, IsCutShort, IsFaultyRest, IsReading, IsReadingFrom, IsSpelled, NoBlock, START, behind_all, block_records, is_in_blocks}
+use Rattle.scr_pcapng.specs.Reading.{BeginWith, IsBlockReading, IsClassicReading, IsCutShort, IsReading, IsReadingFrom, IsSpelled, NoBlock, START, behind_all, block_records, is_in_blocks}
 use Rattle.scr_pcapng.proofs.Fronts.{IsBlock-append, IsBlock-long}
 
 -- the same bytes begin with the same block, and the same bytes follow it

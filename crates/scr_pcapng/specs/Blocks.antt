@@ -1,6 +1,6 @@
 -- The blocks of a capture (pcapng): a type of 4 bytes, the total length in 4 bytes, a body, and the total length again.
 -- A section's body begins with a mark, which tells the order of bytes in this section.
-use Rattle.std.specs.Prelude.{◌≡◌, ◌≢◌, ℕ, ◌+◌, ◌-◌, ◌%◌, Bool, ◌&&◌, not, List, [], ◌∷◌, ◌++◌, length, take, Option, Some, None, Result, Ok, Err, ◌==◌, nat_lt, nat_le, if◌then◌else◌}
+use Rattle.std.specs.Prelude.{◌≡◌, ℕ, ◌-◌, ◌%◌, Bool, ◌&&◌, not, List, length, take, Option, Some, None, Result, Ok, Err, ◌==◌, nat_lt, nat_le, if◌then◌else◌}
 use Rattle.scr_pcap.specs.declared.format.Order.{Order}
 use Rattle.scr_pcap.specs.declared.format.Order.TheVariants.{Little, Big}
 use Rattle.scr_pcap.specs.Header.{number_at}

@@ -2,7 +2,7 @@
 -- length at 12 and options from 16 on; a simple packet its original length at 8 and its bytes from 12 on; an enhanced
 -- packet its interface at 8, its time at 12, high half first, its captured length at 20, and its bytes from 28 on.
 -- Other blocks are passed over.
-use Rattle.std.specs.Prelude.{ℕ, ◌≡◌, ◌≤◌, ◌+◌, ◌-◌, ◌*◌, ◌^◌, min, Bool, ◌||◌, not, List, [], ◌∷◌, ◌++◌, length, take, drop, Option, Some, None, Result, Ok, Err, ◌==◌, nat_lt, slice_get, if◌then◌else◌}
+use Rattle.std.specs.Prelude.{ℕ, ◌≡◌, ◌≤◌, ◌+◌, ◌-◌, ◌*◌, ◌^◌, min, ◌||◌, not, List, [], ◌∷◌, ◌++◌, length, take, drop, Option, Some, None, Result, Ok, Err, ◌==◌, nat_lt, slice_get, if◌then◌else◌}
 use Rattle.scr_pcap.specs.declared.format.Order.{Order}
 use Rattle.scr_pcap.specs.Header.{number_at}
 use Rattle.scr_pcap.specs.Records.{Record, RECORDS, CAPTURED}

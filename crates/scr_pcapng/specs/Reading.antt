@@ -1,6 +1,6 @@
 -- The reading of a capture in blocks, from all its bytes at once: the records of its packets, or the first fault. Such a
 -- capture begins with the four bytes 0A 0D 0D 0A, and any other is read in the libpcap file format.
-use Rattle.std.specs.Prelude.{◌≡◌, ◌≢◌, ℕ, ◌+◌, Bool, List, [], ◌∷◌, ◌++◌, length, Result, Ok, Err, nat_eq, MatchBool, ⊤}
+use Rattle.std.specs.Prelude.{◌≡◌, ◌≢◌, ℕ, Bool, List, [], ◌∷◌, ◌++◌, Result, Ok, Err, nat_eq, MatchBool}
 use Rattle.std.specs.List.{flat_map, starts_with}
 use Rattle.scr_pcap.specs.declared.format.Order.TheVariants.{Little}
 use Rattle.scr_pcap.specs.Records.{Record}

@@ -1,5 +1,5 @@
 -- What a contract sees of a reader of blocks.
-use Rattle.std.specs.Prelude.{◌≡◌, ◌<◌, ℕ, List, ◌++◌, Option, Some, None, Result, Ok, Err, IfSome}
+use Rattle.std.specs.Prelude.{◌<◌, ℕ, List, ◌++◌, Option, Some, None, Result, Ok, Err, IfSome}
 use Rattle.scr_pcap.specs.declared.reader.RecordInfo.{RecordInfo}
 use Rattle.scr_pcap.specs.Records.{Record}
 use Rattle.scr_pcapng.specs.declared.error.AnyError.{AnyError}

@@ -1,6 +1,6 @@
 -- The times of packets (pcapng, option if_tsresol, as this project reads it): a second has so many units as a power of
 -- ten or of two says, and a time counts them.
-use Rattle.std.specs.Prelude.{ℕ, ◌*◌, ◌/◌, ◌-◌, ◌^◌, min, Bool, ◌&&◌, ◌||◌, Option, Some, None, nat_lt, nat_le, if◌then◌else◌}
+use Rattle.std.specs.Prelude.{ℕ, ◌*◌, ◌/◌, ◌-◌, ◌^◌, min, Bool, ◌&&◌, ◌||◌, nat_lt, nat_le, if◌then◌else◌}
 
 -- how many units a second has: by a value below 128 a power of ten, by another one a power of two
 abbrev pub units_of : (value : ℕ) → ℕ
