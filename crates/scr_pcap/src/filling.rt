@@ -5,9 +5,9 @@ ghost use Rattle.scr_pcap.specs.Taken.{GivesFewer};
 
 use scr_base::{Failed, Source};
 
-// Reads until the buffer is full or the end is met, and answers how many bytes were taken. Where a read failed there were
-// fewer than the buffer has room for.
-pub(crate) fn fill<S: Source>(source: &mut S, buf: &mut [u8]) -> Result<usize, Failed>
+/// Reads until the buffer is full or the end is met, and answers how many bytes were taken. Where a read failed there were
+/// fewer than the buffer has room for.
+pub fn fill<S: Source>(source: &mut S, buf: &mut [u8]) -> Result<usize, Failed>
     ensures within { IfOk result (λ count. count ≤ length buf.old) }
     ensures taken { IfOk result (λ count. Consumes (S.left source.old) (S.left source.new) (take count buf.new)) }
     ensures end { IfOk result (λ count. count < length buf.old → IsAtEnd (S.left source.new)) }

@@ -14,8 +14,8 @@ pub enum Order {
 }
 
 impl Order {
-    // The number in the two bytes from a place on.
-    pub(crate) fn u16_at(self, bytes: &[u8], place: usize) -> u16
+    /// The number in the two bytes from a place on.
+    pub fn u16_at(self, bytes: &[u8], place: usize) -> u16
         requires { place + 2 ≤ length bytes.now }
         ensures { result ≡ number_at self place 2 bytes.now }
     {
@@ -25,8 +25,8 @@ impl Order {
         }
     }
 
-    // The number in the four bytes from a place on.
-    pub(crate) fn u32_at(self, bytes: &[u8], place: usize) -> u32
+    /// The number in the four bytes from a place on.
+    pub fn u32_at(self, bytes: &[u8], place: usize) -> u32
         requires { place + 4 ≤ length bytes.now }
         ensures { result ≡ number_at self place 4 bytes.now }
     {

@@ -44,8 +44,8 @@ impl FrameBuf {
         &self.room[..self.filled]
     }
 
-    // Takes a frame of this size, or as much of it as stands before the end, and answers how many bytes that was.
-    pub(crate) fn fill<S: Source>(&mut self, source: &mut S, size: usize) -> Result<usize, Failed>
+    /// Takes a frame of this size, or as much of it as stands before the end, and answers how many bytes that was.
+    pub fn fill<S: Source>(&mut self, source: &mut S, size: usize) -> Result<usize, Failed>
         requires { size ≤ LONGEST }
         ensures within { IfOk result (λ count. count ≤ size) }
         ensures count { IfOk result (λ count. count ≡ length self.new) }

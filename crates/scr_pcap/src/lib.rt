@@ -37,8 +37,9 @@ mod reader;
 mod tests;
 
 pub use error::CaptureError;
+pub use filling::fill;
 pub use format::{Format, Fraction, Order};
-pub use frame::FrameBuf;
+pub use frame::{FrameBuf, LONGEST};
 pub use generated::generate;
 pub use laws::{most_bytes, one_reading, some_reading};
-pub use reader::{Progress, Reader, RecordInfo};
+pub use reader::{LIMIT, Progress, Reader, RecordInfo};

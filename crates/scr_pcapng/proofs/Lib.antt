@@ -1,0 +1,5 @@
+pub mod Taken
+pub mod Heads
+pub mod Fronts
+pub mod OneReading
+pub mod SomeReading

@@ -1,0 +1,113 @@
+-- A block that is taken in parts from a source.
+use Rattle.std.specs.Prelude.{◌≡◌, ◌≢◌, ℕ, ◌-◌, ◌≤◌, List, length, take, Option, Some, Result, Ok, Err, IfSome, IfErr, ⊤, ◌==◌, if◌then◌else◌}
+use Rattle.std.specs.Io.KnownBytes.{Consumes, IsAtEnd, prepend_known}
+use Rattle.scr_pcap.specs.declared.format.Order.{Order}
+use Rattle.scr_pcap.specs.Header.{number_at}
+use Rattle.scr_pcapng.specs.declared.kind.Kind.{Kind}
+use Rattle.scr_pcapng.specs.declared.content.Content.{Content}
+use Rattle.scr_pcapng.specs.declared.error.AnyError.{AnyError}
+use Rattle.scr_pcapng.specs.declared.error.AnyError.TheVariants.{Classic, Ng, ReadFault, OutOfMemory}
+use Rattle.scr_pcapng.specs.declared.kind.Kind.TheVariants.{SectionHeader, InterfaceDescription, SimplePacket, EnhancedPacket, Other}
+use Rattle.scr_base.specs.Causes.{counted}
+use Rattle.scr_pcapng.specs.declared.error.NgError.{NgError}
+use Rattle.scr_pcapng.specs.declared.error.NgError.TheVariants.{Cut}
+use Rattle.scr_pcapng.specs.Options.{unit_in}
+use Rattle.scr_pcapng.specs.Contents.{Position, captured_by, records_in, records_with}
+use Rattle.scr_pcapng.specs.Blocks.{BLOCKS, IsBlock, front_of, head_of, kind_in, order_in, total_in}
+use Rattle.scr_pcapng.specs.Reading.{IsFaultyRest, SECTION}
+
+-- a source gave so many bytes
+pub record TakesBytes (old new : Option (List ℕ)) (size : ℕ) : Type 0 where
+  pub bytes : List ℕ
+  pub taken : Consumes old new bytes
+  pub all : length bytes ≡ size
+
+-- a source gave so many bytes, of which the last four tell this number
+pub record TakesTail (old new : Option (List ℕ)) (order : Order) (size told : ℕ) : Type 0 where
+  pub bytes : List ℕ
+  pub taken : Consumes old new bytes
+  pub all : length bytes ≡ size
+  pub number : told ≡ number_at order (size - 4) 4 bytes
+
+-- a source gave so many bytes of options, which tell this unit
+pub record TakesUnit (old new : Option (List ℕ)) (order : Order) (size : ℕ) (unit : Option ℕ) : Type 0 where
+  pub bytes : List ℕ
+  pub taken : Consumes old new bytes
+  pub all : length bytes ≡ size
+  pub told : unit ≡ unit_in order bytes
+
+-- the bytes from a block on, by what a source has left: the first four of a capture were taken ahead
+abbrev pub ahead : Position → Option (List ℕ) → Option (List ℕ)
+ahead position left = if position.blocks == 0 then prepend_known SECTION left else left
+
+-- the block in front has this kind, order and total length
+pub record IsHead (position : Position) (bytes : List ℕ) (kind : Kind) (order : Order) (total : ℕ) : Type 0 where
+  pub few : position.blocks ≢ BLOCKS
+  pub kind_told : kind ≡ kind_in position bytes
+  pub front : front_of kind ≤ length bytes
+  pub order_told : order_in position kind bytes ≡ Some order
+  pub total_told : total ≡ total_in order bytes
+
+-- an error that is a cause of the capture is the fault of the block that stands there
+abbrev pub IsFaultOf : Position → Option (List ℕ) → AnyError → Type 0
+IsFaultOf position front (Classic fault) = ⊥
+IsFaultOf position front (Ng fault) = IfSome front (λ bytes. IsFaultyRest position bytes fault)
+IsFaultOf position front ReadFault = ⊤
+IsFaultOf position front (OutOfMemory want) = ⊤
+
+abbrev pub IsFaultAt : {T : Type 0} → Position → Option (List ℕ) → Result T AnyError → Type 0
+IsFaultAt position front result = IfErr result (IsFaultOf position front)
+
+-- how many bytes of options an interface has
+abbrev pub options_size : Kind → (total : ℕ) → ℕ
+options_size SectionHeader total = 0
+options_size InterfaceDescription total = total - 20
+options_size SimplePacket total = 0
+options_size EnhancedPacket total = 0
+options_size Other total = 0
+
+-- a source gave the options of an interface, which tell this unit, or nothing
+pub record TakesOptions (old new : Option (List ℕ)) (kind : Kind) (order : Order) (total : ℕ) (unit : Option ℕ) : Type 0 where
+  pub bytes : List ℕ
+  pub taken : Consumes old new bytes
+  pub all : length bytes ≡ options_size kind total
+  pub told : kind ≡ InterfaceDescription → unit ≡ unit_in order bytes
+
+-- a source gave the bytes of a packet, or nothing
+pub record TakesFrame (old new : Option (List ℕ)) (content : Content) (frame : List ℕ) : Type 0 where
+  pub bytes : List ℕ
+  pub taken : Consumes old new bytes
+  pub all : length bytes ≡ captured_by content
+  pub told : records_with content bytes ≡ records_with content frame
+
+-- a source gave the block that stands there, with this content and, of a packet, these bytes
+pub record TakesBlock (position : Position) (old new : Option (List ℕ)) (content : Content) (frame : List ℕ) : Type 0 where
+  pub bytes : List ℕ
+  pub taken : Consumes old new bytes
+  pub is : IfSome old (λ _. IsBlock position (record { bytes = bytes; content = content }))
+  pub told : records_in content bytes ≡ records_with content frame
+
+-- a source has given the head of the block that stands there
+pub record HasGivenHead (position : Position) (old new : Option (List ℕ)) (kind : Kind) (order : Order) (total : ℕ) (head : List ℕ) : Type 0 where
+  pub is : IfSome old (λ bytes. IsHead position bytes kind order total)
+  pub taken : Consumes old new (take (head_of kind) head)
+
+-- how often a source has failed behind an answer: once more where the answer says so
+abbrev pub faults_counted : {T : Type 0} → Result T AnyError → ℕ → ℕ
+faults_counted (Ok value) faults = faults
+faults_counted (Err (Classic fault)) faults = faults
+faults_counted (Err (Ng fault)) faults = faults
+faults_counted (Err ReadFault) faults = counted faults
+faults_counted (Err (OutOfMemory want)) faults = faults
+
+-- why bytes of the block with this number weren't taken: the end, or a failure of the source
+abbrev pub IsStop : (block : ℕ) → Option (List ℕ) → AnyError → Type 0
+IsStop block new (Classic fault) = ⊥
+IsStop block new (Ng fault) = (fault ≡ Cut block) × IsAtEnd new
+IsStop block new ReadFault = ⊤
+IsStop block new (OutOfMemory want) = ⊥
+
+-- how many bytes of a packet follow, where its tests are met
+abbrev pub captured_of : Result Content NgError → ℕ
+captured_of (Ok content) = captured_by content
+captured_of (Err fault) = 0
