@@ -1,5 +1,8 @@
 //! What `main` wires, over streams in memory.
 
+ghost use Rattle.std.specs.Prelude.{◌<◌, ◌-◌, ◌^◌, length};
+ghost use Rattle.std.specs.Result.{ForOk};
+
 use crate::arguments::{NoWords, words_given};
 use crate::ending::ended;
 use scr_base::{OutOfMemory, SureSink, SureSource};
@@ -54,7 +57,9 @@ fn tells_why_there_are_no_words(rt: HostRuntime) {
 fn run_over(
     alloc: Global,
     words: Result<Vec<scr_base::Word>, NoWords>,
-) -> Result<(u8, SureSink, SureSink), Fail> {
+) -> Result<(u8, SureSink, SureSink), Fail>
+    requires { ForOk words (λ words. length words.items < 2 ^ 32 - 1) }
+{
     let header = [
         0xD4, 0xC3, 0xB2, 0xA1, 2, 0, 4, 0, 0, 0, 0, 0, 0, 0, 0, 0, 0, 0, 4, 0, 1, 0, 0, 0,
     ];
