@@ -33,7 +33,7 @@ length-row_bytes row = refl
 -- the row that stands in the bytes of a row
 pub row_again : (row : Row) (rest : List ℕ) → IsRow row → row_in (row_bytes row ++ rest) ≡ row
 unfolding row_bytes IsRow
-row_again row rest fits = same_row (row_in (row_bytes row ++ rest)) row (words_of_row_in (row_bytes row ++ rest) ∙ words_again (words row) rest fits)
+row_again row rest fits = same_row (row_in (row_bytes row ++ rest)) row (words_of_row_in (row_bytes row ++ rest) ∙ words_again (row_words row) rest fits)
 
 -- the bytes of the row that stands in bytes, and what stands behind them
 pub row_back : (bytes : List ℕ) → 56 ≤ length bytes → IsBytes bytes → row_bytes (row_in bytes) ++ drop 56 bytes ≡ bytes
