@@ -1,4 +1,4 @@
-ghost use Rattle.std.specs.Prelude.{◌≡◌, ◌≢◌, ◌≤◌, ◌<◌, ◌+◌, length, IfOk};
+ghost use Rattle.std.specs.Prelude.{◌≡◌, ◌≢◌, ◌≤◌, ◌<◌, ◌+◌, true, length, IfOk};
 ghost use Rattle.scr_log.specs.declared.room.Room.TheVariants.{Free};
 ghost use Rattle.scr_log.specs.Passes.{IsNext, IsCurrent};
 
@@ -108,39 +108,56 @@ fn no_room_and_then_free(rt: HostRuntime) -> Result<(), Fail> {
     Ok(())
 }
 
-// Publishes the final entry for packet p, when the slot is free.
-fn publish_when_free<R: Wait>(rt: &R, logs: &Logs, plan: &RunPlan, pass: &mut CorePass, p: u32)
+// Pauses, and tells whether the run goes on.
+fn goes_on(logs: &Logs, pass: &mut CorePass) -> bool
+    requires { pass.old.logs ≡ logs.now }
+    ensures { pass.new ≡ record pass.old { looks = pass.new.looks } }
+{
+    thread::yield_now();
+    !logs.halted(pass)
+}
+
+// Publishes the final entry for packet p, when the slot is free, unless the run is over before.
+fn publish_when_free<R: Wait>(
+    rt: &R,
+    logs: &Logs,
+    plan: &RunPlan,
+    pass: &mut CorePass,
+    p: u32,
+) -> bool
     requires plan { logs.now.plan ≡ plan.now }
     requires next { IsNext logs.now pass.old p }
-    ensures published { pass.new.published ≡ p }
-    ensures finished { pass.new.finished ≡ pass.old.finished }
-    ensures same { pass.new.logs ≡ pass.old.logs }
+    ensures published { result ≡ true → IsCurrent logs.now pass.new p }
     ensures core { pass.new.core ≡ pass.old.core }
 {
     for _ in rt.forever() {
         if publish(logs, plan, pass, p) == Room::Free {
-            return;
+            return true;
         }
-        thread::yield_now();
+        if !goes_on(logs, pass) {
+            return false;
+        }
     }
     unreachable!()
 }
 
-// The row of packet p in the log of another core, or none where it is lost there.
+// The row of packet p in the log of another core, or none where it is lost there, or the run is over.
 fn entry_of<R: Wait>(rt: &R, logs: &Logs, pass: &mut CorePass, core: u32, p: u32) -> Option<Row>
     requires core { core < logs.now.plan.cores }
     requires other { core ≢ pass.old.core }
     requires current { IsCurrent logs.now pass.old p }
-    ensures published { pass.new.published ≡ pass.old.published }
-    ensures finished { pass.new.finished ≡ pass.old.finished }
-    ensures same { pass.new.logs ≡ pass.old.logs }
+    ensures current { IsCurrent logs.now pass.new p }
     ensures core { pass.new.core ≡ pass.old.core }
 {
     for _ in rt.forever() {
         match logs.look(pass, core, p) {
             Look::Row(row) => return Some(row),
             Look::Lost => return None,
-            Look::NotYet { .. } => thread::yield_now(),
+            Look::NotYet { .. } => {
+                if !goes_on(logs, pass) {
+                    return None;
+                }
+            }
         }
     }
     unreachable!()
@@ -151,14 +168,14 @@ fn go_through<R: Wait>(
     rt: &R,
     logs: &Logs,
     plan: &RunPlan,
-    mut pass: CorePass,
+    pass: &mut CorePass,
     entries: &mut [Option<Row>],
 )
-    requires of_these { pass.logs ≡ logs.now }
+    requires of_these { pass.old.logs ≡ logs.now }
     requires plan { logs.now.plan ≡ plan.now }
     requires cores { plan.now.cores ≡ 2 }
-    requires fresh { pass.published ≡ 0 }
-    requires idle { pass.finished ≡ 0 }
+    requires fresh { pass.old.published ≡ 0 }
+    requires idle { pass.old.finished ≡ 0 }
     requires all { length entries.old ≡ length plan.now.rows }
     requires few { length plan.now.rows ≤ 1000000 }
 {
@@ -166,39 +183,101 @@ fn go_through<R: Wait>(
     let mut p = 0;
     for entry in entries.iter_mut() {
         p += 1;
-        publish_when_free(rt, logs, plan, &mut pass, p);
-        *entry = entry_of(rt, logs, &mut pass, other, p);
-        logs.finish(&mut pass, p);
+        if !publish_when_free(rt, logs, plan, pass, p) {
+            return;
+        }
+        *entry = entry_of(rt, logs, pass, other, p);
+        logs.finish(pass, p);
     }
 }
 
-// Two cores in threads go through all packets of a plan. Each notes what the other has.
+// What a core of two notes. Without memory for it the run is over.
+fn noted<R: Wait>(
+    rt: &R,
+    alloc: Global,
+    logs: &Logs,
+    plan: &RunPlan,
+    mut pass: CorePass,
+) -> Option<Vec<Option<Row>>>
+    requires of_these { pass.logs ≡ logs.now }
+    requires plan { logs.now.plan ≡ plan.now }
+    requires cores { plan.now.cores ≡ 2 }
+    requires fresh { pass.published ≡ 0 }
+    requires idle { pass.finished ≡ 0 }
+    requires few { length plan.now.rows ≤ 1000000 }
+{
+    let Ok(mut entries) = vec![in alloc; None; plan.rows().len()] else {
+        logs.halt(&mut pass);
+        return None;
+    };
+    go_through(rt, logs, plan, &mut pass, &mut entries);
+    Some(entries)
+}
+
+// Two cores in threads go through all packets of a plan. Each notes what the other has. Where no thread can be started,
+// there is no answer.
 fn by_two_threads<R: Threads + Wait + Sync>(
+    rt: &R,
+    alloc: Global,
+    logs: &Logs,
+    plan: &RunPlan,
+    zero: CorePass,
+    one: CorePass,
+) -> Option<(Vec<Option<Row>>, Vec<Option<Row>>)>
+    requires of_these { (zero.logs ≡ logs.now) × (one.logs ≡ logs.now) }
+    requires plan { logs.now.plan ≡ plan.now }
+    requires cores { plan.now.cores ≡ 2 }
+    requires fresh { (zero.published ≡ 0) × (one.published ≡ 0) }
+    requires idle { (zero.finished ≡ 0) × (one.finished ≡ 0) }
+    requires few { length plan.now.rows ≤ 1000000 }
+{
+    thread::scope(
+        thread::scope_env(),
+        rt,
+        |scope|
+            requires of_these { (zero.logs ≡ logs.now) × (one.logs ≡ logs.now) }
+            requires plan { logs.now.plan ≡ plan.now }
+            requires cores { plan.now.cores ≡ 2 }
+            requires fresh { (zero.published ≡ 0) × (one.published ≡ 0) }
+            requires idle { (zero.finished ≡ 0) × (one.finished ≡ 0) }
+            requires few { length plan.now.rows ≤ 1000000 }
+        {
+            let Ok(other) = scope.spawn(
+                move ||
+                    requires of_these { one.logs ≡ logs.now }
+                    requires plan { logs.now.plan ≡ plan.now }
+                    requires cores { plan.now.cores ≡ 2 }
+                    requires fresh { one.published ≡ 0 }
+                    requires idle { one.finished ≡ 0 }
+                    requires few { length plan.now.rows ≤ 1000000 }
+                { noted(rt, alloc, logs, plan, one) },
+            ) else {
+                return None;
+            };
+            let of_one = noted(rt, alloc, logs, plan, zero);
+            Some((of_one?, other.join(rt)?))
+        },
+    )
+}
+
+// The same over new logs with so many slots.
+fn by_two_cores<R: Threads + Wait + Sync>(
     rt: &R,
     alloc: Global,
     plan: &RunPlan,
     slots: u32,
-    of_one: &mut [Option<Row>],
-    of_zero: &mut [Option<Row>],
-) -> Result<bool, OutOfMemory>
+) -> Result<Option<(Vec<Option<Row>>, Vec<Option<Row>>)>, OutOfMemory>
     requires cores { plan.now.cores ≡ 2 }
     requires some_slots { 1 ≤ slots }
     requires few_slots { slots ≤ 4096 }
-    requires zero { length of_zero.old ≡ length plan.now.rows }
-    requires one { length of_one.old ≡ length plan.now.rows }
     requires few { length plan.now.rows ≤ 1000000 }
 {
     let (logs, mut main) = Logs::make(alloc, plan, slots)?;
     let first = main.split(&logs);
     let (Ok(zero), Ok(one)) = (logs.claim(first), logs.claim(main)) else {
-        return Ok(false);
+        return Ok(None);
     };
-    thread::join(
-        rt,
-        || go_through(rt, &logs, plan, zero, of_one),
-        || go_through(rt, &logs, plan, one, of_zero),
-    );
-    Ok(true)
+    Ok(by_two_threads(rt, alloc, &logs, plan, zero, one))
 }
 
 #[test]
@@ -210,10 +289,19 @@ fn two_cores_have_their_final_entries(rt: HostRuntime) -> Result<(), Fail> {
     ];
     for (history, zero, one) in cases {
         let plan = two_cores(rt.alloc(), 4, history, b"2")?;
-        let (mut of_one, mut of_zero) = ([None; 4], [None; 4]);
-        assert!(rt; by_two_threads(&rt, rt.alloc(), &plan, 4, &mut of_one, &mut of_zero)?);
-        assert_eq!(rt; of_zero, zero, "core 0 at history {history}");
-        assert_eq!(rt; of_one, one, "core 1 at history {history}");
+        let Some((of_one, of_zero)) = by_two_cores(&rt, rt.alloc(), &plan, 4)? else {
+            panic!(rt; "no threads")
+        };
+        assert_eq!(rt;
+            of_zero.as_slice(),
+            zero.as_slice(),
+            "core 0 at history {history}"
+        );
+        assert_eq!(rt;
+            of_one.as_slice(),
+            one.as_slice(),
+            "core 1 at history {history}"
+        );
     }
     Ok(())
 }
@@ -221,8 +309,9 @@ fn two_cores_have_their_final_entries(rt: HostRuntime) -> Result<(), Fail> {
 #[test]
 fn two_cores_use_one_slot_a_hundred_times(rt: HostRuntime) -> Result<(), Fail> {
     let plan = two_cores(rt.alloc(), 100, 0, b"3-100/3")?;
-    let (mut of_one, mut of_zero) = ([None; 100], [None; 100]);
-    assert!(rt; by_two_threads(&rt, rt.alloc(), &plan, 1, &mut of_one, &mut of_zero)?);
+    let Some((of_one, of_zero)) = by_two_cores(&rt, rt.alloc(), &plan, 1)? else {
+        panic!(rt; "no threads")
+    };
     for (i, (zero, one)) in of_zero.iter().zip(of_one.iter()).enumerate() {
         let delivered = (i + 1) % 3 != 0;
         assert_eq!(rt; zero.is_some(), delivered && i % 2 == 0, "core 0 at {i}");

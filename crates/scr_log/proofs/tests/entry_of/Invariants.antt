@@ -5,6 +5,5 @@ use Rattle.scr_log.proofs.tests.entry_of.Given as goal
 abbrev pub invariant-loop : goal.invariant-loop
 invariant-loop g l = record {
   current : IsCurrent l.fn.logs l.pass l.fn.p;
-  same : l.pass.logs ≡ l.fn.pass.logs;
   core : l.pass.core ≡ l.fn.pass.core;
 }

@@ -5,7 +5,5 @@ use Rattle.scr_log.proofs.tests.publish_when_free.Given as goal
 abbrev pub invariant-loop : goal.invariant-loop
 invariant-loop g l = record {
   next : IsNext l.fn.logs l.pass l.fn.p;
-  same : l.pass.logs ≡ l.fn.pass.logs;
   core : l.pass.core ≡ l.fn.pass.core;
-  finished : l.pass.finished ≡ l.fn.pass.finished;
 }
