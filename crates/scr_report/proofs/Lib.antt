@@ -1,4 +1,5 @@
 pub mod Numbers
+pub mod Counting
 pub mod Cutting
 pub mod LineKinds
 pub mod Stages

@@ -18,6 +18,10 @@ name_at names place = slice_index_or names place []
 abbrev pub named_line : List ℕ → ℕ → List ℕ
 named_line name number = line (decimal number ∷ name ∷ [])
 
+-- what stands behind the number in the line of a name
+abbrev pub line_ending : List ℕ → List ℕ
+line_ending name = 32 ∷ line (name ∷ [])
+
 -- the verdict that was given at a frame
 abbrev pub verdict_line : List (List ℕ) → Given → List ℕ
 verdict_line names given = named_line (name_at names given.verdict.0) given.number

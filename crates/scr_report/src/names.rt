@@ -1,6 +1,6 @@
-ghost use Rattle.std.specs.Prelude.{◌≡◌, ◌≢◌, ℕ, ◌<◌, ◌≤◌, ◌++◌, ◌∷◌, [], List, length, map, OnOk, OnErr, MatchOption, ◌==◌};
+ghost use Rattle.std.specs.Prelude.{◌≡◌, ◌≢◌, ℕ, ◌<◌, ◌≤◌, ◌++◌, ◌∷◌, [], List, All, length, map, OnOk, OnErr, IfOk, MatchOption, ◌==◌};
 ghost use Rattle.std.specs.String.{string_bytes};
-ghost use Rattle.scr_report.specs.Text.{name_at};
+ghost use Rattle.scr_report.specs.Text.{name_at, line_ending};
 ghost use Rattle.scr_report.specs.Grammar.{IsFirstOfName};
 
 use scr_base::{OutOfMemory, Verdict};
@@ -10,15 +10,23 @@ use std::marker::Model;
 /// The names of a program's verdicts, in the order of their numbers: at most 255.
 #[derive(Debug, Drop)]
 pub struct Names {
-    names: Vec<String>,
+    names: Vec<Name>,
+}
+
+// A name, and what stands behind the number in a line of its verdict, so that such a line is put in two pieces.
+#[derive(Debug, Drop)]
+struct Name {
+    text: String,
+    ending: Vec<u8>,
 }
 
 impl Model for Names {
     ghost Value = { List (List ℕ) };
 
-    ghost view = { λ names. map string_bytes names.names.items };
+    ghost view = { λ names. map (λ name. string_bytes name.text) names.names.items };
 
-    ghost invariant = { λ names. length names.names.items ≤ 255 };
+    ghost invariant = { λ names. (length names.names.items ≤ 255)
+        × All (λ name. name.ending.items ≡ line_ending (string_bytes name.text)) names.names.items };
 }
 
 impl Names {
@@ -37,8 +45,10 @@ impl Names {
         ensures added { OnOk result (self.new ≡ self.old ++ name.now ∷ []) }
         ensures unchanged { OnErr result (self.new ≡ self.old) }
     {
-        let name = String::from_str(*self.names.allocator(), name)?;
-        self.names.push(name)?;
+        let alloc = *self.names.allocator();
+        let text = String::from_str(alloc, name)?;
+        let ending = ending_of(alloc, name)?;
+        self.names.push(Name { text, ending })?;
         Ok(())
     }
 
@@ -62,7 +72,16 @@ impl Names {
         requires { place < length self.now }
         ensures { result.now ≡ name_at self.now place }
     {
-        self.names[place].as_str()
+        self.names[place].text.as_str()
+    }
+
+    // What stands behind the number in a line of the verdict at a place.
+    #[inline(always)]
+    pub(crate) fn ending(&self, place: usize) -> &[u8]
+        requires { place < length self.now }
+        ensures { result.now ≡ line_ending (name_at self.now place) }
+    {
+        &self.names[place].ending
     }
 
     // The verdict that has this name, the first where there are several.
@@ -72,10 +91,21 @@ impl Names {
             (λ verdict. IsFirstOfName self.now verdict.0 × (name_at self.now verdict.0 ≡ text.now)) }
     {
         for (place, name) in self.names.iter().enumerate() {
-            if name.as_bytes() == text {
+            if name.text.as_bytes() == text {
                 return Some(Verdict(place as u8));
             }
         }
         None
     }
+}
+
+// What stands behind the number in the line of a name.
+fn ending_of(alloc: Global, name: &str) -> Result<Vec<u8>, OutOfMemory>
+    ensures { IfOk result (λ ending. ending.items ≡ line_ending name.now) }
+{
+    let mut ending = Vec::new(alloc);
+    ending.push(b' ')?;
+    ending.extend_from_slice(name.as_bytes())?;
+    ending.push(b'\n')?;
+    Ok(ending)
 }

@@ -1,4 +1,4 @@
-ghost use Rattle.std.specs.Prelude.{◌≡◌, ◌<◌, ◌++◌, ◌∷◌, [], All, length, map, true, if◌then◌else◌};
+ghost use Rattle.std.specs.Prelude.{◌≡◌, ◌<◌, ◌++◌, ◌∷◌, [], All, length, map, decimal, true, if◌then◌else◌};
 ghost use Rattle.std.specs.List.{concat, zip, enumerate_from};
 ghost use Rattle.scr_base.specs.Causes.{CountsError};
 ghost use Rattle.scr_base.specs.Streams.{WritesText, BatchesText};
@@ -62,9 +62,25 @@ fn put_verdicts<O: Sink>(
     ensures cause { CountsError O.faults O.wants out.old out.new result }
 {
     for given in verdicts {
-        put_line(names.get(given.verdict.0.into()), given.number, batch, out)?;
+        let ending = names.ending(given.verdict.0.into());
+        put_numbered(given.number, ending, batch, out)?;
     }
     Ok(())
+}
+
+// Puts a number and what stands behind it in its line.
+#[inline(always)]
+fn put_numbered<O: Sink>(
+    number: u32,
+    ending: &[u8],
+    batch: &mut Batch,
+    out: &mut O,
+) -> Result<(), SinkError>
+    ensures text { BatchesText (O.written out.old) (O.written out.new) batch.old batch.new result (decimal number ++ ending.now) }
+    ensures cause { CountsError O.faults O.wants out.old out.new result }
+{
+    batch.put_decimal(out, number.into())?;
+    batch.put(out, ending)
 }
 
 /// Puts the line of a frame's verdict, by its name, behind what a batch holds, as the batch's `put` does.

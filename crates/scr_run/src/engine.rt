@@ -16,7 +16,7 @@ ghost use Rattle.scr_run.specs.Asked.{IsOfCapture, status_of};
 ghost use Rattle.scr_run.specs.Ends.{Ends, ended, Writes, StopsWriting, BeginsWriting, HasFault, StopsReading, IsRefusal, IsOutOfMemory, IsUnlessOutOfMemory, IsWantsBehind, reads_behind, writes_behind};
 
 use crate::found::write_found;
-use crate::names::totals_of;
+use crate::names::names_of;
 use crate::status::Status;
 use scr_base::{OutOfMemory, Row, Sink, Source};
 use scr_frame::parse;
@@ -24,7 +24,7 @@ use scr_pcap::{FrameBuf, Reader};
 use scr_plan::{CoreCounts, RunPlan};
 use scr_program::Program;
 use scr_replica::{Gathered, run_phases};
-use scr_report::Report;
+use scr_report::{FrameCounts, Report};
 use scr_words::Shape;
 use std::alloc::Global;
 
@@ -115,22 +115,19 @@ fn report_on<P: Program>(
         (delivered_count plan.now) (kept_count plan.now)
         gathered.cores gathered.flows) }
 {
-    let totals = totals_of(alloc, P::names(), &gathered.verdicts)?;
+    let names = names_of::<P>(alloc)?;
     let kept = kept_of(plan, &gathered.cores);
     let Gathered {
         verdicts,
         cores,
         flows,
     } = gathered;
-    Ok(Report {
+    let counts = FrameCounts {
         frames: plan.rows().len() as u32,
         delivered: verdicts.len() as u32,
-        verdicts,
         kept,
-        cores,
-        flows,
-        totals,
-    })
+    };
+    Report::of(alloc, &names, verdicts, counts, cores, flows)
 }
 
 // How many packets are kept: all but those that a core skipped.

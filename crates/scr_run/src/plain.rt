@@ -15,14 +15,14 @@ ghost use Rattle.scr_run.specs.Asked.{IsOfCapture, status_of};
 ghost use Rattle.scr_run.specs.Ends.{Ends, ended, Writes, StopsWriting, BeginsWriting, HasFault, StopsReading, IsRefusal, IsOutOfMemory, IsUnlessOutOfMemory, IsWantsBehind, reads_behind, writes_behind};
 
 use crate::found::write_found;
-use crate::names::totals_of;
+use crate::names::names_of;
 use crate::status::Status;
 use scr_base::{OutOfMemory, Sink, Source};
 use scr_frame::parse;
 use scr_pcap::{FrameBuf, Reader, RecordInfo};
 use scr_plan::Given;
 use scr_program::Program;
-use scr_report::Report;
+use scr_report::{FrameCounts, Report};
 use std::alloc::Global;
 
 /// A program over a capture, without cores: it takes each frame in turn, and the report is written when the capture was
@@ -110,18 +110,15 @@ fn plain_report<P: Program>(
     ensures { (rows : List Row) → P.StandsFor settings.now core.state rows → IfOk result (λ report. report ≡ report_of P.verdict_names core.given.items
         (length core.given.items) (length core.given.items) (length core.given.items) [] (P.count_after settings.now rows)) }
 {
-    let totals = totals_of(alloc, P::names(), &core.given)?;
+    let names = names_of::<P>(alloc)?;
     let flows = P::flows(settings, &core.state);
     let frames = core.given.len() as u32;
-    Ok(Report {
-        verdicts: core.given,
+    let counts = FrameCounts {
         frames,
         delivered: frames,
         kept: frames,
-        cores: Vec::new(alloc),
-        flows,
-        totals,
-    })
+    };
+    Report::of(alloc, &names, core.given, counts, Vec::new(alloc), flows)
 }
 
 // What the program makes of a capture.
