@@ -127,9 +127,9 @@ module _ (table : TableSettings) (settings : KnockSettings) (is : IsDoor table s
       let agrees = place-agrees settings table.flows (in_states flows) source fields looked place in
       let set = set_key-mapped state_at is_same_address settings.flows flows source (next_place settings place fields.destination_port) in
       rw (packet, looked, is.rules, state) (
-        agrees
-        ∙ ap (λ (most : ℕ). (set_key is_same_address most (in_states flows) source (state_at (next_place settings place fields.destination_port)), verdict_at place)) is.flows
-        ∙ ap (λ (list : List (Address × ℕ)). (list, verdict_at place)) set)
+      agrees
+      ∙ ap (λ (most : ℕ). (set_key is_same_address most (in_states flows) source (state_at (next_place settings place fields.destination_port)), verdict_at place)) is.flows
+      ∙ ap (λ (list : List (Address × ℕ)). (list, verdict_at place)) set)
 
   pub flows-agree : (rows : List Row) → All (λ row. has_ports (kind_in row) ≡ true) rows
       → flows_after (tables.step table) rows ≡ in_states (flows_after (door.step settings) rows)
