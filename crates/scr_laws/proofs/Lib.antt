@@ -1,0 +1,2 @@
+pub mod DoorTable
+pub mod DoorText
