@@ -24,18 +24,24 @@
 
 mod carrying;
 mod counting;
+mod delays;
 mod drops;
 mod given;
 mod laws;
+mod link;
 mod plan;
 mod reading;
+mod reading_delays;
 #[cfg(test)]
 mod tests;
 
 pub use carrying::{carried_from, core_of, kept};
 pub use counting::{CoreCounts, counts};
+pub use delays::{Delays, FrameDelay};
 pub use drops::{DropRange, Drops};
 pub use given::Given;
 pub use laws::lost_to_all;
+pub use link::{Fate, Link};
 pub use plan::RunPlan;
 pub use reading::{DropCause, DropError};
+pub use reading_delays::{DelayCause, DelayError};
