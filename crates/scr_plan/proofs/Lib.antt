@@ -6,6 +6,7 @@ pub mod InTime
 pub mod Delivering
 pub mod Judged
 pub mod Packets
+pub mod EmptyLink
 pub mod Lost
 pub mod Tallies
 pub mod Totals

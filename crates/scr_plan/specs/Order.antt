@@ -59,3 +59,7 @@ items_to plan core n = flat_map (items_at plan core) (range_with_len 1 n)
 -- the whole order, behind which the end comes
 abbrev pub order : Plan → (core : ℕ) → List Item
 order plan core = items_to plan core (frame_count plan + greatest_delay)
+
+-- what number n adds where the link does nothing: the beacon, and then the frame, where it goes to this core
+abbrev pub plain_at : Plan → (core n : ℕ) → List Item
+plain_at plan core n = beacon_at plan n ++ (if core_number plan.cores n == core then Frame n ∷ [] else [])

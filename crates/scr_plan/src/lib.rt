@@ -40,7 +40,7 @@ pub use counting::{CoreCounts, counts};
 pub use delays::{Delays, FrameDelay};
 pub use drops::{DropRange, Drops};
 pub use given::Given;
-pub use laws::lost_to_all;
+pub use laws::{empty_link_delivers_all, lost_to_all};
 pub use link::{Fate, Link};
 pub use plan::RunPlan;
 pub use reading::{DropCause, DropError};
