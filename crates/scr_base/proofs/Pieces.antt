@@ -4,8 +4,8 @@ use Rattle.std.specs.List.{flat_map}
 use Rattle.std.proofs.lemmas.List.{take_more, take-append-drop, append-nil}
 use Rattle.std.proofs.lemmas.Grind.{flat_map-append}
 use Rattle.std.proofs.lemmas.List.Concat.{flat_map-cons}
-use Rattle.scr_base.specs.Streams.{AppendsPrefix, Passes}
-use Rattle.scr_base.proofs.Streams.{Passes-then, Passes-stops, AppendsPrefix-longer}
+use Rattle.scr_base.specs.Streams.{StopsWithin, Passes}
+use Rattle.scr_base.proofs.Streams.{Passes-then, Passes-stops, StopsWithin-longer}
 
 -- one item more
 flat_map-take_more : {X : Type 0} (f : X → List ℕ) (xs : List X) (i : ℕ) (d : X) → i < length xs
@@ -30,7 +30,7 @@ Passes-more f xs i d a b c p q r below before one =
 
 -- the put of an item failed
 pub Passes-fails : {X : Type 0} (f : X → List ℕ) (xs : List X) (i : ℕ) (d : X) (a b c : Option (List ℕ)) (p q : List ℕ) → i < length xs
-    → Passes a b p q (flat_map f (take i xs)) → AppendsPrefix b c (q ++ f (get_or xs i d)) → AppendsPrefix a c (p ++ flat_map f xs)
+    → Passes a b p q (flat_map f (take i xs)) → StopsWithin b c (q ++ f (get_or xs i d)) → StopsWithin a c (p ++ flat_map f xs)
 Passes-fails f xs i d a b c p q below before front =
-    let P : List ℕ → Type 0 = λ t. AppendsPrefix a c (p ++ t) in
-    subst P (sym (flat_map-parts f xs i d below)) (AppendsPrefix-longer a c p _ (flat_map f (drop (i + 1) xs)) (Passes-stops a b c p q _ _ before front))
+    let P : List ℕ → Type 0 = λ t. StopsWithin a c (p ++ t) in
+    subst P (sym (flat_map-parts f xs i d below)) (StopsWithin-longer a c p _ (flat_map f (drop (i + 1) xs)) (Passes-stops a b c p q _ _ before front))

@@ -1,8 +1,8 @@
 -- What a sink gains by one write after another.
-use Rattle.std.proofs.Common.{◌≡◌, ℕ, List, [], ◌++◌, take, drop, Option, Some, None, Result, Ok, Err, sym, ap, ◌∙◌, append_assoc, subst}
+use Rattle.std.proofs.Common.{◌≡◌, ◌<◌, ℕ, arith, length, length-append, inl, inr, OnErr, List, [], ◌++◌, take, drop, Option, Some, None, Result, Ok, Err, sym, ap, ◌∙◌, append_assoc, subst}
 use Rattle.std.proofs.lemmas.List.{append-nil, take-append-drop}
 use Rattle.std.specs.Io.KnownBytes.{Appends, Keeps}
-use Rattle.scr_base.specs.Streams.{AppendsPrefix, Passes, WritesText, BatchesText}
+use Rattle.scr_base.specs.Streams.{AppendsPrefix, StopsWithin, Passes, WritesText, BatchesText, HoldsOrWrote}
 
 -- nothing appended
 pub Appends-none : (a : Option (List ℕ)) → Appends a a []
@@ -33,7 +33,7 @@ Passes-then a b c p q r x y first second = record {
 }
 
 -- a write that failed behind texts that were passed on
-pub Passes-stops : (a b c : Option (List ℕ)) (p q x y : List ℕ) → Passes a b p q x → AppendsPrefix b c (q ++ y) → AppendsPrefix a c (p ++ (x ++ y))
+pub Passes-stops : (a b c : Option (List ℕ)) (p q x y : List ℕ) → Passes a b p q x → StopsWithin b c (q ++ y) → StopsWithin a c (p ++ (x ++ y))
 Passes-stops a b c p q x y first second = record {
   sent = first.sent ++ second.sent;
   rest = second.rest;
@@ -41,16 +41,22 @@ Passes-stops a b c p q x y first second = record {
   parts =
       sym (append_assoc p x y) ∙ ap (λ (t : List ℕ). t ++ y) first.parts ∙ append_assoc first.sent q y
       ∙ ap (λ (t : List ℕ). first.sent ++ t) second.parts ∙ sym (append_assoc first.sent second.sent second.rest);
+  outstanding = second.outstanding;
 }
 
 -- a front of a text is a front of a longer one
-pub AppendsPrefix-longer : (a b : Option (List ℕ)) (p x y : List ℕ) → AppendsPrefix a b (p ++ x) → AppendsPrefix a b (p ++ (x ++ y))
-AppendsPrefix-longer a b p x y front = record {
+pub StopsWithin-longer : (a b : Option (List ℕ)) (p x y : List ℕ) → StopsWithin a b (p ++ x) → StopsWithin a b (p ++ (x ++ y))
+StopsWithin-longer a b p x y front = record {
   sent = front.sent;
   rest = front.rest ++ y;
   gained = front.gained;
   parts = sym (append_assoc p x y) ∙ ap (λ (t : List ℕ). t ++ y) front.parts ∙ append_assoc front.sent front.rest y;
+  outstanding = (let some : 0 < length front.rest = front.outstanding in omega (arith, length-append {A = ℕ}));
 }
+
+-- a text that stopped within has a front that was appended
+pub StopsWithin-front : (a b : Option (List ℕ)) (text : List ℕ) → StopsWithin a b text → AppendsPrefix a b text
+StopsWithin-front a b text stops = record { sent = stops.sent; rest = stops.rest; gained = stops.gained; parts = stops.parts }
 
 -- bytes from the front of what is held go out
 pub Passes-sends : (a b c : Option (List ℕ)) (n : ℕ) (p q x : List ℕ) → Passes a b p q x → Appends b c (take n q) → Passes a c p (drop n q) x
@@ -73,6 +79,7 @@ WritesText-behind a b c held holds text (Err e) before empty front = record {
   rest = front.rest;
   gained = Appends-then a b c held front.sent before front.gained;
   parts = ap (λ (t : List ℕ). held ++ t) front.parts ∙ sym (append_assoc held front.sent front.rest);
+  outstanding = front.outstanding;
 }
 
 -- a text behind texts that were passed on, whole or not
@@ -94,4 +101,12 @@ WritesText-finish a b c p q x (Err e) empty passed front = record {
   parts =
       ap (λ (t : List ℕ). t ++ x) (sym empty) ∙ passed.parts ∙ ap (λ (t : List ℕ). passed.sent ++ t) front.parts
       ∙ sym (append_assoc passed.sent front.sent front.rest);
+  outstanding = front.outstanding;
 }
+
+-- a batch that had written all that it held, and failed with the text behind it
+pub HoldsOrWrote-behind : {E : Type 0} (a b c : Option (List ℕ)) (held holds text : List ℕ) (result : Result Unit E)
+    → Appends a b held → holds ≡ [] → WritesText b c result text → OnErr result (HoldsOrWrote a c held holds)
+HoldsOrWrote-behind a b c held holds text (Ok u) before empty gained = tt
+HoldsOrWrote-behind a b c held holds text (Err e) before empty stops =
+    inr (empty, (stops.sent, Appends-then a b c held stops.sent before stops.gained))

@@ -1,6 +1,7 @@
 -- Streams in memory. Calls are numbered from 1, and counts stop at the last value of their type.
-use Rattle.std.specs.Prelude.{ℕ, ◌+◌, ◌-◌, ◌^◌, ◌==◌, min, Bool, List}
+use Rattle.std.specs.Prelude.{ℕ, ◌==◌, Bool, List}
 use Rattle.std.specs.List.{list_any}
+use Rattle.scr_base.specs.Causes.{counted}
 
 -- a source in memory that never fails: what is left, and at most how many bytes a call gives
 pub record SureSourceInMemory : Type 0 where
@@ -31,10 +32,6 @@ pub record SinkInMemory : Type 0 where
   pub calls : ℕ
   pub faults : ℕ
   pub wants : ℕ
-
--- a count, one higher
-abbrev pub counted : ℕ → ℕ
-counted count = min (count + 1) (2 ^ 64 - 1)
 
 -- whether the call behind so many calls is one of those that fail
 abbrev pub fails : List ℕ → ℕ → Bool

@@ -1,7 +1,7 @@
 ghost use Rattle.std.specs.Prelude.{◌≡◌, ◌+◌, ◌≤◌, ◌++◌, ℕ, List, [], length, take, decimal, OnErr, OnOk};
 ghost use Rattle.std.specs.List.{flat_map};
-ghost use Rattle.scr_base.specs.Causes.{HasSinkCause};
-ghost use Rattle.scr_base.specs.Streams.{WritesText, BatchesText};
+ghost use Rattle.scr_base.specs.Causes.{CountsError};
+ghost use Rattle.scr_base.specs.Streams.{WritesText, BatchesText, HoldsOrWrote, HoldsOrWroteBehind};
 ghost use Rattle.scr_base.specs.Pieces.{text_of};
 ghost use Rattle.scr_base.specs.declared.batch.TheConstants.{SIZE};
 
@@ -41,10 +41,11 @@ impl Batch {
     }
 
     /// Puts a text behind what is held, and writes what is held where there is no room.
-    /// At `Err` the sink has gained a front of what was held and the text.
+    /// At `Err` the sink has gained a front of what was held and the text, and not all of it.
     pub fn put<O: Sink>(&mut self, out: &mut O, text: &[u8]) -> Result<(), SinkError>
         ensures text { BatchesText (O.written out.old) (O.written out.new) self.old self.new result text.now }
-        ensures cause { HasSinkCause O.faults O.wants out.old out.new result }
+        ensures kept { OnErr result (HoldsOrWrote (O.written out.old) (O.written out.new) self.old self.new) }
+        ensures cause { CountsError O.faults O.wants out.old out.new result }
     {
         if text.len() <= SIZE - self.filled {
             self.hold(text);
@@ -58,7 +59,8 @@ impl Batch {
     #[inline(never)]
     fn put_behind_all<O: Sink>(&mut self, out: &mut O, text: &[u8]) -> Result<(), SinkError>
         ensures text { BatchesText (O.written out.old) (O.written out.new) self.old self.new result text.now }
-        ensures cause { HasSinkCause O.faults O.wants out.old out.new result }
+        ensures kept { OnErr result (HoldsOrWrote (O.written out.old) (O.written out.new) self.old self.new) }
+        ensures cause { CountsError O.faults O.wants out.old out.new result }
     {
         self.finish(out)?;
         if text.len() > SIZE {
@@ -80,7 +82,8 @@ impl Batch {
     /// Puts the decimal text of a number, as `put` does.
     pub fn put_decimal<O: Sink>(&mut self, out: &mut O, n: u64) -> Result<(), SinkError>
         ensures text { BatchesText (O.written out.old) (O.written out.new) self.old self.new result (decimal n) }
-        ensures cause { HasSinkCause O.faults O.wants out.old out.new result }
+        ensures kept { OnErr result (HoldsOrWrote (O.written out.old) (O.written out.new) self.old self.new) }
+        ensures cause { CountsError O.faults O.wants out.old out.new result }
     {
         let mut buffer = Buffer::new();
         self.put(out, buffer.format(n).as_bytes())
@@ -89,7 +92,8 @@ impl Batch {
     /// Puts the texts of these pieces one after another, as `put` does.
     pub fn put_pieces<O: Sink>(&mut self, out: &mut O, pieces: &[Piece]) -> Result<(), SinkError>
         ensures text { BatchesText (O.written out.old) (O.written out.new) self.old self.new result (flat_map text_of pieces.now) }
-        ensures cause { HasSinkCause O.faults O.wants out.old out.new result }
+        ensures kept { OnErr result (HoldsOrWroteBehind (O.written out.old) (O.written out.new) self.old self.new pieces.now) }
+        ensures cause { CountsError O.faults O.wants out.old out.new result }
     {
         for piece in pieces {
             self.put_piece(out, piece)?;
@@ -99,7 +103,8 @@ impl Batch {
 
     fn put_piece<O: Sink>(&mut self, out: &mut O, piece: &Piece) -> Result<(), SinkError>
         ensures text { BatchesText (O.written out.old) (O.written out.new) self.old self.new result (text_of piece.now) }
-        ensures cause { HasSinkCause O.faults O.wants out.old out.new result }
+        ensures kept { OnErr result (HoldsOrWrote (O.written out.old) (O.written out.new) self.old self.new) }
+        ensures cause { CountsError O.faults O.wants out.old out.new result }
     {
         match piece {
             Piece::Text(text) => self.put(out, text),
@@ -107,12 +112,12 @@ impl Batch {
         }
     }
 
-    /// Writes what is held. At `Err` the sink has gained a front of it, and all of it is still held.
+    /// Writes what is held. At `Err` the sink has gained a front of it and not all, and all of it is still held.
     pub fn finish<O: Sink>(&mut self, out: &mut O) -> Result<(), SinkError>
         ensures text { WritesText (O.written out.old) (O.written out.new) result self.old }
         ensures empty { OnOk result (self.new ≡ []) }
         ensures kept { OnErr result (self.new ≡ self.old) }
-        ensures cause { HasSinkCause O.faults O.wants out.old out.new result }
+        ensures cause { CountsError O.faults O.wants out.old out.new result }
     {
         put_all(out, &self.bytes[..self.filled])?;
         self.filled = 0;

@@ -1,8 +1,9 @@
 ghost use Rattle.std.specs.Prelude.{◌≡◌, ◌≢◌, ◌≤◌, ◌<◌, ℕ, List, [], length, min, drop, Some, IfOk, IsErr, MatchBool, MatchResult, if◌then◌else◌, is_ok};
 ghost use Rattle.std.specs.Io.KnownBytes.{ReadConsumes, WriteAppends};
-ghost use Rattle.scr_base.specs.Causes.{HasCause, HasSinkCause};
-ghost use Rattle.scr_base.specs.Memory.{SourceInMemory, SinkInMemory, counted, fails};
+ghost use Rattle.scr_base.specs.Causes.{CountsFault, CountsError, counted};
+ghost use Rattle.scr_base.specs.Memory.{SourceInMemory, SinkInMemory, fails};
 
+use crate::out_of_memory::OutOfMemory;
 use crate::sink::{Sink, SinkError};
 use crate::source::{Failed, Source};
 use crate::sure::{SureSink, SureSource};
@@ -93,10 +94,9 @@ impl Source for MemSource {
         ensures bound { IfOk result (λ count. count ≤ length buf.old) }
         ensures bytes { ReadConsumes (Some self.old.left) (Some self.new.left) result buf.new }
         ensures rest { IfOk result (λ count. drop count buf.new ≡ drop count buf.old) }
-        ensures cause { HasCause (λ source. source.faults) self.old self.new result }
+        ensures cause { CountsFault (λ source. source.faults) self.old self.new result }
         ensures answer { MatchBool (fails self.old.failing self.old.calls) (IsErr result)
             (result ≡ Ok (min self.old.limit (min (length buf.old) (length self.old.left)))) }
-        ensures faults { self.new.faults ≡ (if is_ok result then self.old.faults else counted self.old.faults) }
         ensures calls { self.new.calls ≡ counted self.old.calls }
         ensures limit { self.new.limit ≡ self.old.limit }
         ensures failing { self.new.failing ≡ self.old.failing }
@@ -165,12 +165,9 @@ impl Sink for MemSink {
         ensures bound { IfOk result (λ count. count ≤ length piece.now) }
         ensures progress { IfOk result (λ count. 0 < length piece.now → 0 < count) }
         ensures bytes { WriteAppends (Some self.old.written) (Some self.new.written) result piece.now }
-        ensures cause { HasSinkCause (λ sink. sink.faults) (λ sink. sink.wants) self.old self.new result }
+        ensures cause { CountsError (λ sink. sink.faults) (λ sink. sink.wants) self.old self.new result }
         ensures answer { MatchBool (fails self.old.failing self.old.calls) (result ≡ Err SinkError.Failed)
-            (MatchResult result (λ count. count ≡ min self.old.limit (length piece.now)) (λ error. error ≡ SinkError.OutOfMemory)) }
-        ensures faults { self.new.faults ≡ (if fails self.old.failing self.old.calls then counted self.old.faults else self.old.faults) }
-        ensures wants { (result ≡ Err SinkError.OutOfMemory → self.new.wants ≡ counted self.old.wants)
-            × (result ≢ Err SinkError.OutOfMemory → self.new.wants ≡ self.old.wants) }
+            (MatchResult result (λ count. count ≡ min self.old.limit (length piece.now)) (λ error. (want : OutOfMemory) × (error ≡ SinkError.OutOfMemory want))) }
         ensures calls { self.new.calls ≡ counted self.old.calls }
         ensures limit { self.new.limit ≡ self.old.limit }
         ensures failing { self.new.failing ≡ self.old.failing }

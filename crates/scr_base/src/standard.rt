@@ -1,8 +1,7 @@
 ghost use Rattle.std.specs.Prelude.{◌≡◌, ◌≢◌, ◌≤◌, ◌<◌, ◌++◌, ℕ, List, [], length, min, take, drop, slice_range, None, IfOk, IfErr, OnOk, OnErr, if◌then◌else◌, is_ok};
 ghost use Rattle.std.specs.Io.KnownBytes.{Keeps, Consumes, IsAtEnd, ReadConsumes, WriteAppends, prepend_known};
-ghost use Rattle.scr_base.specs.Causes.{HasCause, HasSinkCause};
-ghost use Rattle.scr_base.specs.Memory.{counted};
-ghost use Rattle.scr_base.specs.Standard.{ReadAhead, Faults};
+ghost use Rattle.scr_base.specs.Causes.{CountsFault, CountsError, counted};
+ghost use Rattle.scr_base.specs.Standard.{ReadAhead, WrittenTo};
 ghost use Rattle.scr_base.specs.declared.standard.TheConstants.{AHEAD};
 
 use crate::copying::copy_front;
@@ -83,8 +82,7 @@ impl<R: Read + Drop> ReaderSource<R> {
         ensures end { OnOk result (self.new.held ≡ [] → IsAtEnd self.new.rest) }
         ensures kept { OnErr result (Keeps self.old.rest self.new.rest) }
         ensures still_empty { OnErr result (self.new.held ≡ []) }
-        ensures faults { self.new.faults ≡ (if is_ok result then self.old.faults else counted self.old.faults) }
-        ensures later { self.old.faults ≤ self.new.faults }
+        ensures cause { CountsFault (λ source. source.faults) self.old self.new result }
     {
         match self.reader.read(&mut self.bytes) {
             Ok(count) => {
@@ -111,8 +109,7 @@ impl<R: Read + Drop> Source for ReaderSource<R> {
         ensures bound { IfOk result (λ count. count ≤ length buf.old) }
         ensures bytes { ReadConsumes (prepend_known self.old.held self.old.rest) (prepend_known self.new.held self.new.rest) result buf.new }
         ensures rest { IfOk result (λ count. drop count buf.new ≡ drop count buf.old) }
-        ensures cause { HasCause (λ source. source.faults) self.old self.new result }
-        ensures faults { self.new.faults ≡ (if is_ok result then self.old.faults else counted self.old.faults) }
+        ensures cause { CountsFault (λ source. source.faults) self.old self.new result }
         ensures held { 0 < length self.old.held → IfOk result (λ count. self.old.held ≡ take count buf.new ++ self.new.held) }
         ensures count { 0 < length self.old.held → result ≡ Ok (min (length buf.old) (length self.old.held)) }
     {
@@ -124,87 +121,56 @@ impl<R: Read + Drop> Source for ReaderSource<R> {
     }
 }
 
-/// Standard output or standard error as a sink, which tells nothing of its bytes.
+/// A writer as a sink, which writes as it is called.
 #[derive(Drop)]
-pub struct StdSink {
-    stream: Stream,
+pub struct WriterSink<W: Write + Drop> {
+    writer: W,
     faults: u64,
 }
 
-#[derive(Drop)]
-enum Stream {
-    Output(Stdout),
-    Error(Stderr),
+/// Standard output, which tells nothing of its bytes.
+pub type StdOutput = WriterSink<Stdout>;
+
+/// Standard error, which tells nothing of its bytes.
+pub type StdError = WriterSink<Stderr>;
+
+impl<W: Write + Drop> Model for WriterSink<W> {
+    ghost Value = { WrittenTo };
+
+    ghost view = { λ sink. record { written = W.contents sink.writer; faults = sink.faults } };
 }
 
-impl Model for StdSink {
-    ghost Value = { Faults };
-
-    ghost view = { λ sink. record { faults = sink.faults } };
-}
-
-impl StdSink {
-    /// Standard output.
-    pub fn output(stream: Stdout) -> Self
-        ensures { result.faults ≡ 0 }
+impl<W: Write + Drop> WriterSink<W> {
+    /// A sink of what the writer takes.
+    pub fn new(writer: W) -> Self
+        ensures written { result.written ≡ W.contents writer }
+        ensures faults { result.faults ≡ 0 }
     {
-        StdSink {
-            stream: Stream::Output(stream),
-            faults: 0,
-        }
-    }
-
-    /// Standard error.
-    pub fn error(stream: Stderr) -> Self
-        ensures { result.faults ≡ 0 }
-    {
-        StdSink {
-            stream: Stream::Error(stream),
-            faults: 0,
-        }
+        WriterSink { writer, faults: 0 }
     }
 }
 
-impl Sink for StdSink {
-    ghost written = { λ sink. None };
+impl<W: Write + Drop> Sink for WriterSink<W> {
+    ghost written = { λ sink. sink.written };
 
     ghost faults = { λ sink. sink.faults };
 
     ghost wants = { λ sink. 0 };
 
+    // A write has failed too where it took nothing of a nonempty piece.
     fn write(&mut self, piece: &[u8]) -> Result<usize, SinkError>
         ensures bound { IfOk result (λ count. count ≤ length piece.now) }
         ensures progress { IfOk result (λ count. 0 < length piece.now → 0 < count) }
-        ensures bytes { WriteAppends None None result piece.now }
-        ensures cause { HasSinkCause (λ sink. sink.faults) (λ sink. 0) self.old self.new result }
+        ensures bytes { WriteAppends self.old.written self.new.written result piece.now }
+        ensures cause { CountsError (λ sink. sink.faults) (λ sink. 0) self.old self.new result }
         ensures error { IfErr result (λ error. error ≡ SinkError.Failed) }
-        ensures faults { self.new.faults ≡ (if is_ok result then self.old.faults else counted self.old.faults) }
     {
-        match &mut self.stream {
-            Stream::Output(stream) => write_counted(stream, piece, &mut self.faults),
-            Stream::Error(stream) => write_counted(stream, piece, &mut self.faults),
-        }
-    }
-}
-
-// One write, which has failed too where it took nothing of a nonempty piece. A failure is counted.
-fn write_counted<W: Write>(
-    writer: &mut W,
-    piece: &[u8],
-    faults: &mut u64,
-) -> Result<usize, SinkError>
-    ensures bound { IfOk result (λ count. count ≤ length piece.now) }
-    ensures progress { IfOk result (λ count. 0 < length piece.now → 0 < count) }
-    ensures bytes { WriteAppends (W.contents writer.old) (W.contents writer.new) result piece.now }
-    ensures error { IfErr result (λ error. error ≡ SinkError.Failed) }
-    ensures faults { faults.new ≡ (if is_ok result then faults.old else counted faults.old) }
-    ensures later { faults.old ≤ faults.new }
-{
-    match writer.write(piece) {
-        Ok(count) if count > 0 || piece.is_empty() => Ok(count),
-        _ => {
-            *faults = faults.saturating_add(1);
-            Err(SinkError::Failed)
+        match self.writer.write(piece) {
+            Ok(count) if count > 0 || piece.is_empty() => Ok(count),
+            _ => {
+                self.faults = self.faults.saturating_add(1);
+                Err(SinkError::Failed)
+            }
         }
     }
 }

@@ -1,9 +1,10 @@
 ghost use Rattle.std.specs.Prelude.{◌≡◌, ◌≤◌, ◌<◌, ◌+◌, ◌++◌, ℕ, List, [], length, min, take, drop, Some, IfOk, MatchResult, if◌then◌else◌, is_ok, vec_len};
 ghost use Rattle.std.specs.Io.KnownBytes.{ReadConsumes, WriteAppends};
-ghost use Rattle.scr_base.specs.Causes.{HasCause, HasSinkCause};
-ghost use Rattle.scr_base.specs.Memory.{SureSourceInMemory, SureSinkInMemory, counted};
+ghost use Rattle.scr_base.specs.Causes.{CountsFault, CountsError};
+ghost use Rattle.scr_base.specs.Memory.{SureSourceInMemory, SureSinkInMemory};
 
 use crate::copying::copy_front;
+use crate::out_of_memory::OutOfMemory;
 use crate::sink::{Sink, SinkError};
 use crate::source::{Failed, Source};
 use std::alloc::Global;
@@ -49,7 +50,7 @@ impl Source for SureSource {
         ensures bound { IfOk result (λ count. count ≤ length buf.old) }
         ensures bytes { ReadConsumes (Some self.old.left) (Some self.new.left) result buf.new }
         ensures rest { IfOk result (λ count. drop count buf.new ≡ drop count buf.old) }
-        ensures cause { HasCause (λ source. 0) self.old self.new result }
+        ensures cause { CountsFault (λ source. 0) self.old self.new result }
         ensures answer { result ≡ Ok (min self.old.limit (min (length buf.old) (length self.old.left))) }
         ensures limit { self.new.limit ≡ self.old.limit }
     {
@@ -111,17 +112,16 @@ impl Sink for SureSink {
         ensures bound { IfOk result (λ count. count ≤ length piece.now) }
         ensures progress { IfOk result (λ count. 0 < length piece.now → 0 < count) }
         ensures bytes { WriteAppends (Some self.old.written) (Some self.new.written) result piece.now }
-        ensures cause { HasSinkCause (λ sink. 0) (λ sink. sink.wants) self.old self.new result }
-        ensures answer { MatchResult result (λ count. count ≡ min self.old.limit (length piece.now)) (λ error. error ≡ SinkError.OutOfMemory) }
+        ensures cause { CountsError (λ sink. 0) (λ sink. sink.wants) self.old self.new result }
+        ensures answer { MatchResult result (λ count. count ≡ min self.old.limit (length piece.now)) (λ error. (want : OutOfMemory) × (error ≡ SinkError.OutOfMemory want)) }
         ensures limit { self.new.limit ≡ self.old.limit }
-        ensures wants { self.new.wants ≡ (if is_ok result then self.old.wants else counted self.old.wants) }
     {
         let count = self.limit.min(piece.len());
         match self.bytes.extend_from_slice(&piece[..count]) {
             Ok(()) => Ok(count),
-            Err(_) => {
+            Err(error) => {
                 self.wants = self.wants.saturating_add(1);
-                Err(SinkError::OutOfMemory)
+                Err(SinkError::OutOfMemory(error.into()))
             }
         }
     }

@@ -1,10 +1,10 @@
 use crate::{
     Batch, Failed, MemSink, MemSource, NumberError, OutOfMemory, Piece, ReaderSource, Sink,
-    SinkError, Source, StdSink, StdSource, SureSink, SureSource, Word, put_all, put_decimal,
-    read_number,
+    SinkError, Source, StdError, StdOutput, StdSource, SureSink, SureSource, Word, WriterSink,
+    put_all, put_decimal, read_number,
 };
 use std::io;
-use std::io::Read;
+use std::io::{Read, Write};
 
 const NINES: &[u8] = b"9999999999999999999999999999999999999999";
 
@@ -154,6 +154,15 @@ impl Read for Letters {
 }
 
 #[test]
+fn an_empty_buffer_reads_nothing_ahead(rt: HostRuntime) {
+    let mut letters = ReaderSource::new(Letters { calls: 0 });
+    assert_eq!(rt; letters.read(&mut []), Ok(0));
+    let mut word = [0; 3];
+    assert_eq!(rt; letters.read(&mut word), Ok(3));
+    assert_eq!(rt; word, *b"bbb");
+}
+
+#[test]
 fn reads_ahead(rt: HostRuntime) -> Result<(), OutOfMemory> {
     let bytes = vec![in rt.alloc(); 9u8; 70000]?;
     let mut source = ReaderSource::new(bytes.as_slice());
@@ -177,10 +186,63 @@ fn reads_ahead(rt: HostRuntime) -> Result<(), OutOfMemory> {
 fn opens_the_standard_streams(rt: HostRuntime) {
     let mut input = StdSource::new(rt.stdin());
     assert_eq!(rt; input.read(&mut [0; 4]), Ok(0));
-    let mut output = StdSink::output(rt.stdout());
+    let mut output = StdOutput::new(rt.stdout());
     assert_eq!(rt; output.write(b""), Ok(0));
-    let mut error = StdSink::error(rt.stderr());
+    let mut error = StdError::new(rt.stderr());
     assert_eq!(rt; error.write(b""), Ok(0));
+}
+
+// A writer that takes at most so many bytes a call.
+#[derive(Drop)]
+struct Narrow<'a> {
+    taken: &'a mut Vec<u8>,
+    limit: usize,
+}
+
+impl Write for Narrow<'_> {
+    fn write(&mut self, buf: &[u8]) -> io::Result<usize> {
+        let count = buf.len().min(self.limit);
+        match self.taken.extend_from_slice(&buf[..count]) {
+            Ok(()) => Ok(count),
+            Err(_) => Err(io::ErrorKind::OutOfMemory.into()),
+        }
+    }
+
+    fn flush(&mut self) -> io::Result<()> {
+        Ok(())
+    }
+}
+
+#[test]
+fn writes_to_a_narrow_writer(rt: HostRuntime) -> Result<(), OutOfMemory> {
+    let lines = b"1 word\n22 word\n333 word\n";
+    for limit in [0, 1, 7] {
+        let mut taken = Vec::new(rt.alloc());
+        let writer = Narrow {
+            taken: &mut taken,
+            limit,
+        };
+        let mut sink = WriterSink::new(writer);
+        let want = if limit == 0 {
+            Err(SinkError::Failed)
+        } else {
+            Ok(())
+        };
+        assert_eq!(rt; sink.write(b""), Ok(0));
+        assert_eq!(rt; put_lines(&mut Batch::new(), &mut sink), want, "at {limit}");
+        let stands: &[u8] = if limit == 0 { b"" } else { lines };
+        assert_eq!(rt; taken.as_slice(), stands, "at {limit}");
+    }
+    Ok(())
+}
+
+#[test]
+fn wants_memory_as_the_system_says(rt: HostRuntime) {
+    let wanted = io::ErrorKind::OutOfMemory.into();
+    assert!(rt; OutOfMemory::of_system(&wanted).is_some());
+    let broken = io::ErrorKind::BrokenPipe.into();
+    assert!(rt; OutOfMemory::of_system(&broken).is_none());
+    assert!(rt; Vec::<u8>::with_capacity(rt.alloc(), usize::MAX).is_err());
 }
 
 #[test]

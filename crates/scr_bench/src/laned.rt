@@ -23,38 +23,37 @@ pub fn lane_received<R: Threads + Wait + Sync>(
     let (send, receive) = Lane::make(alloc, &plan, 0, CAPACITY)?;
     let feed = Feed::new(alloc, &plan, 0, send);
     let gave_up = AtomicBool::new(false);
-    let (_, received) = thread::join(
+    let (sent, received) = thread::join(
         rt,
         || feed_all(rt, feed, &gave_up),
         || receive_all(rt, receive, &gave_up),
     );
-    received
+    sent?;
+    Ok(received)
 }
 
-// Sends the whole lane, and tells where there was no memory for it.
-fn feed_all<R: Wait>(rt: &R, feed: Feed<'_>, gave_up: &AtomicBool) {
-    if feed.run(rt).is_err() {
+// Sends the whole lane, and tells the other end where there was no memory for it.
+fn feed_all<R: Wait>(rt: &R, feed: Feed<'_>, gave_up: &AtomicBool) -> Result<(), OutOfMemory> {
+    let sent = feed.run(rt);
+    if sent.is_err() {
         gave_up.store(true, Ordering::SeqCst);
     }
+    sent
 }
 
-// Takes all messages up to the end.
-fn receive_all<R: Wait>(
-    rt: &R,
-    mut end: ReceiveEnd,
-    gave_up: &AtomicBool,
-) -> Result<u64, OutOfMemory> {
+// Takes all messages up to the end, or until the other end gave up.
+fn receive_all<R: Wait>(rt: &R, mut end: ReceiveEnd, gave_up: &AtomicBool) -> u64 {
     let mut sum = 0u64;
     for _ in rt.forever() {
         match end.pop(rt) {
             Some(packet) => {
                 let (more, is_end) = added(sum, &packet);
                 if is_end {
-                    return Ok(more);
+                    return more;
                 }
                 sum = more;
             }
-            None if gave_up.load(Ordering::SeqCst) => return Err(OutOfMemory),
+            None if gave_up.load(Ordering::SeqCst) => return sum,
             None => thread::yield_now(),
         }
     }

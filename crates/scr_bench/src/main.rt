@@ -22,7 +22,7 @@ mod traffic;
 use laned::lane_received;
 use logged::rows_found;
 use measure::{Measure, asked_for};
-use scr_base::{OutOfMemory, StdSink, put_all, put_decimal};
+use scr_base::{OutOfMemory, StdOutput, put_all, put_decimal};
 use sequenced::bytes_sequenced;
 use std::alloc::Global;
 use std::process::ExitCode;
@@ -37,7 +37,7 @@ fn main(rt: HostRuntime) -> ExitCode {
     let Ok(number) = number_of(&rt, rt.alloc(), measure) else {
         return ExitCode::from(5);
     };
-    let mut out = StdSink::output(rt.stdout());
+    let mut out = StdOutput::new(rt.stdout());
     if put_decimal(&mut out, number).is_err() || put_all(&mut out, b"\n").is_err() {
         return ExitCode::from(4);
     }

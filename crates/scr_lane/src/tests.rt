@@ -27,16 +27,14 @@ const ROW: Row = Row {
 };
 
 // A plan of such rows, whose frames carry their own packets alone.
-fn plan_of(alloc: Global, frames: u16, cores: u32, drops: &[u8]) -> Result<RunPlan, OutOfMemory>
+fn plan_of(alloc: Global, frames: u16, cores: u32, drops: &[u8]) -> Result<RunPlan, Fail>
     requires some { 1 ≤ cores }
     requires few { cores ≤ 16 }
     ensures cores { IfOk result (λ plan. plan.cores ≡ cores) }
     ensures alone { IfOk result (λ plan. plan.history ≡ 0) }
 {
     let rows = vec![in alloc; ROW; usize::from(frames)]?;
-    let Ok(drops) = Drops::read(alloc, drops) else {
-        return Err(OutOfMemory);
-    };
+    let drops = Drops::read(alloc, drops)?;
     Ok(RunPlan::make(rows, cores, 0, drops))
 }
 

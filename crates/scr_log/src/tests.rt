@@ -21,22 +21,15 @@ const ROW: Row = Row {
 };
 
 // A plan for two cores, with so many packets, such a history, and these frames dropped.
-fn two_cores(
-    alloc: Global,
-    packets: usize,
-    history: u32,
-    dropped: &[u8],
-) -> Result<RunPlan, OutOfMemory>
+fn two_cores(alloc: Global, packets: usize, history: u32, dropped: &[u8]) -> Result<RunPlan, Fail>
     requires few { packets ≤ 1000000 }
     requires short { history ≤ 64 }
     ensures packets { IfOk result (λ plan. length plan.rows ≡ packets) }
     ensures cores { IfOk result (λ plan. plan.cores ≡ 2) }
 {
     let rows = vec![in alloc; ROW; packets]?;
-    match Drops::read(alloc, dropped) {
-        Ok(drops) => Ok(RunPlan::make(rows, 2, history, drops)),
-        Err(_) => Err(OutOfMemory),
-    }
+    let drops = Drops::read(alloc, dropped)?;
+    Ok(RunPlan::make(rows, 2, history, drops))
 }
 
 // Publishes the final entry for packet p, where the slot is free.

@@ -10,3 +10,4 @@ pub mod Appended
 pub mod GeneratedFrames
 pub mod GeneratedRecords
 pub mod GeneratedReading
+pub mod Sizes

@@ -12,6 +12,10 @@ use Rattle.scr_pcap.specs.declared.format.Order.TheVariants.{Little, Big}
 use Rattle.scr_pcap.specs.declared.format.Fraction.{Fraction}
 use Rattle.scr_pcap.specs.declared.format.Fraction.TheVariants.{Microseconds, Nanoseconds}
 
+-- the length of the header
+abbrev pub HEADER_SIZE : ℕ
+HEADER_SIZE = 24
+
 -- the number in the first n bytes
 abbrev pub number : Order → ℕ → List ℕ → ℕ
 number Little n bytes = little_number n bytes
@@ -51,7 +55,7 @@ header_in (Some format) bytes =
 
 -- the format of a capture that begins with a valid header, or the first test that fails
 unfoldable pub header_of : List ℕ → Result Format CaptureError
-header_of bytes = if nat_lt (length bytes) 24 then Err ShortHeader else header_in (format_of bytes) bytes
+header_of bytes = if nat_lt (length bytes) HEADER_SIZE then Err ShortHeader else header_in (format_of bytes) bytes
 
 -- the causes that the reading of a header may have
 abbrev pub IsHeaderFault : CaptureError → Type 0

@@ -15,6 +15,10 @@ pub record Record : Type 0 where
   pub time : ℕ
   pub content : List ℕ
 
+-- the length of what stands in front of a record's bytes
+abbrev pub RECORD_HEADER_SIZE : ℕ
+RECORD_HEADER_SIZE = 16
+
 -- the most records that are taken, and the greatest captured length
 abbrev pub RECORDS : ℕ
 RECORDS = 1000000
@@ -36,10 +40,10 @@ captured_in format bytes = number_at format.order 8 4 bytes
 
 -- these bytes are this record
 pub record IsRecord (format : Format) (bytes : List ℕ) (r : Record) : Type 0 where
-  pub whole : length bytes ≡ 16 + captured_in format bytes
+  pub whole : length bytes ≡ RECORD_HEADER_SIZE + captured_in format bytes
   pub within : captured_in format bytes ≤ CAPTURED
   pub time : r.time ≡ time_in format bytes
-  pub content : r.content ≡ drop 16 bytes
+  pub content : r.content ≡ drop RECORD_HEADER_SIZE bytes
 
 -- these records stand at the front of the bytes, one after another, and the rest stands behind them
 abbrev pub BeginWith : Format → List Record → List ℕ → List ℕ → Type 0
@@ -55,7 +59,7 @@ NoRecord format bytes = (r : Record) (first behind : List ℕ) → bytes ≡ fir
 unfoldable pub rest_fault : Format → ℕ → List ℕ → CaptureError
 rest_fault format taken rest =
     if taken == RECORDS then TooMany RECORDS else
-    (if nat_lt (length rest) 16 then ShortRecord (taken + 1) else
+    (if nat_lt (length rest) RECORD_HEADER_SIZE then ShortRecord (taken + 1) else
     (if nat_lt CAPTURED (captured_in format rest) then LongRecord (taken + 1) (captured_in format rest)
     else ShortRecord (taken + 1)))
 

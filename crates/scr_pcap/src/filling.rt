@@ -1,15 +1,18 @@
-ghost use Rattle.std.specs.Prelude.{◌≡◌, ◌≤◌, ◌<◌, ℕ, length, take, IfOk};
+ghost use Rattle.std.specs.Prelude.{◌≡◌, ◌≤◌, ◌<◌, ℕ, length, take, IfOk, OnErr};
 ghost use Rattle.std.specs.Io.KnownBytes.{Consumes, IsAtEnd};
-ghost use Rattle.scr_base.specs.Causes.{HasCause};
+ghost use Rattle.scr_base.specs.Causes.{CountsFault};
+ghost use Rattle.scr_pcap.specs.Taken.{GivesFewer};
 
 use scr_base::{Failed, Source};
 
-// Reads until the buffer is full or the end is met, and answers how many bytes were taken.
+// Reads until the buffer is full or the end is met, and answers how many bytes were taken. Where a read failed there were
+// fewer than the buffer has room for.
 pub(crate) fn fill<S: Source>(source: &mut S, buf: &mut [u8]) -> Result<usize, Failed>
     ensures within { IfOk result (λ count. count ≤ length buf.old) }
     ensures taken { IfOk result (λ count. Consumes (S.left source.old) (S.left source.new) (take count buf.new)) }
     ensures end { IfOk result (λ count. count < length buf.old → IsAtEnd (S.left source.new)) }
-    ensures cause { HasCause S.faults source.old source.new result }
+    ensures fewer { OnErr result (GivesFewer (length buf.old) (S.left source.old) (S.left source.new)) }
+    ensures cause { CountsFault S.faults source.old source.new result }
 {
     let mut count = 0;
     while count < buf.len() {

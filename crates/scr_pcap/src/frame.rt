@@ -1,6 +1,7 @@
-ghost use Rattle.std.specs.Prelude.{◌≡◌, ◌≤◌, ◌<◌, ℕ, List, [], length, take, vec_len, IfOk};
+ghost use Rattle.std.specs.Prelude.{◌≡◌, ◌≤◌, ◌<◌, ℕ, List, [], length, take, vec_len, IfOk, OnErr};
 ghost use Rattle.std.specs.Io.KnownBytes.{Consumes, IsAtEnd};
-ghost use Rattle.scr_base.specs.Causes.{HasCause};
+ghost use Rattle.scr_base.specs.Causes.{CountsFault};
+ghost use Rattle.scr_pcap.specs.Taken.{GivesFewer};
 ghost use Rattle.scr_pcap.specs.declared.frame.TheConstants.{LONGEST};
 
 use crate::filling::fill;
@@ -50,7 +51,8 @@ impl FrameBuf {
         ensures count { IfOk result (λ count. count ≡ length self.new) }
         ensures taken { IfOk result (λ _. Consumes (S.left source.old) (S.left source.new) self.new) }
         ensures end { IfOk result (λ count. count < size → IsAtEnd (S.left source.new)) }
-        ensures cause { HasCause S.faults source.old source.new result }
+        ensures fewer { OnErr result (GivesFewer size (S.left source.old) (S.left source.new)) }
+        ensures cause { CountsFault S.faults source.old source.new result }
     {
         self.filled = 0;
         let count = fill_front(source, &mut self.room, size)?;
@@ -65,7 +67,8 @@ fn fill_front<S: Source>(source: &mut S, room: &mut [u8], size: usize) -> Result
     ensures within { IfOk result (λ count. count ≤ size) }
     ensures taken { IfOk result (λ count. Consumes (S.left source.old) (S.left source.new) (take count room.new)) }
     ensures end { IfOk result (λ count. count < size → IsAtEnd (S.left source.new)) }
-    ensures cause { HasCause S.faults source.old source.new result }
+    ensures fewer { OnErr result (GivesFewer size (S.left source.old) (S.left source.new)) }
+    ensures cause { CountsFault S.faults source.old source.new result }
 {
     fill(source, &mut room[..size])
 }

@@ -11,8 +11,9 @@
 //!
 //! **What is proved.** In whatever pieces a source gives its bytes, each record is the one that stands at their front,
 //! `None` is answered only where nothing is left, and an error is the first test that fails, or a failure of the source
-//! that its count shows. A reader that has ended or answered an error answers the same again, and reads nothing. Any bytes
-//! have one reading, their records or their first fault: [`some_reading`] and [`one_reading`]. The lemmas of
+//! that its count shows, and then no test was due. A call takes no byte behind those that it tests, so that all calls
+//! together take at most 262,160,000,025 bytes ([`most_bytes`]). A reader that has ended or answered an error answers the
+//! same again, and reads nothing. Any bytes have one reading, their records or their first fault: [`some_reading`] and [`one_reading`]. The lemmas of
 //! proofs/Joining.antt join a caller's steps into it. A made-up capture has the bytes of specs/Generated.antt, which says
 //! record by record what they are, and its reading is these records.
 //!
@@ -39,5 +40,5 @@ pub use error::CaptureError;
 pub use format::{Format, Fraction, Order};
 pub use frame::FrameBuf;
 pub use generated::generate;
-pub use laws::{one_reading, some_reading};
+pub use laws::{most_bytes, one_reading, some_reading};
 pub use reader::{Progress, Reader, RecordInfo};

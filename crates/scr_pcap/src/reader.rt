@@ -1,9 +1,9 @@
-ghost use Rattle.std.specs.Prelude.{◌≡◌, ◌≢◌, ◌⊎◌, ◌≤◌, ◌<◌, ◌+◌, ℕ, Bool, true, length, drop, Option, Some, None, Ok, Err, IfOk, IfErr, IfSome, OnErr};
+ghost use Rattle.std.specs.Prelude.{◌≡◌, ◌≢◌, ◌⊎◌, ◌≤◌, ◌<◌, ◌+◌, ℕ, List, Bool, true, length, drop, Option, Some, None, Ok, Err, IfOk, IfErr, IfSome, OnErr};
 ghost use Rattle.std.specs.Io.KnownBytes.{IsAtEnd};
-ghost use Rattle.scr_base.specs.Causes.{Rose};
-ghost use Rattle.scr_pcap.specs.Header.{header_of, IsHeaderFault};
-ghost use Rattle.scr_pcap.specs.Records.{Record, RECORDS, CAPTURED, TakesRecord, IsFaultyRest, IsRecordFault, rest_fault, captured_in};
-ghost use Rattle.scr_pcap.specs.State.{ReaderState, IsFresh, answer_of};
+ghost use Rattle.scr_pcap.specs.Header.{HEADER_SIZE, header_of, IsHeaderFault};
+ghost use Rattle.scr_pcap.specs.Records.{Record, RECORDS, CAPTURED, RECORD_HEADER_SIZE, TakesRecord, IsFaultyRest, IsRecordFault, rest_fault, captured_in};
+ghost use Rattle.scr_pcap.specs.State.{ReaderState, IsFresh, answer_of, reach};
+ghost use Rattle.scr_pcap.specs.Taken.{GivesAtMost, Takes, next_size, CountsReadFault};
 
 use crate::error::CaptureError;
 use crate::filling::fill;
@@ -66,12 +66,13 @@ impl Reader {
     pub fn begin<S: Source>(source: &mut S) -> Result<Self, CaptureError>
         ensures fresh { IfOk result IsFresh }
         ensures header { IfSome (S.left source.old) (λ bytes. IfOk result (λ reader.
-            (header_of bytes ≡ Ok reader.format) × (S.left source.new ≡ Some (drop 24 bytes)))) }
+            (header_of bytes ≡ Ok reader.format) × (S.left source.new ≡ Some (drop HEADER_SIZE bytes)))) }
         ensures refused { IfSome (S.left source.old) (λ bytes. IfErr result (λ error.
             error ≢ CaptureError.ReadFault → header_of bytes ≡ Err error)) }
         ensures named { IfErr result IsHeaderFault }
-        ensures later { S.faults source.old ≤ S.faults source.new }
-        ensures fault { result ≡ Err CaptureError.ReadFault → Rose (S.faults source.old) (S.faults source.new) }
+        ensures takes { Takes HEADER_SIZE (S.left source.old) (S.left source.new) result }
+        ensures reach { IfOk result (λ reader. GivesAtMost (reach reader) (S.left source.old) (S.left source.new)) }
+        ensures counts { CountsReadFault S.faults source.old source.new result }
     {
         let mut header = [0; HEADER];
         let count = fill(source, &mut header)?;
@@ -109,9 +110,14 @@ impl Reader {
         ensures faulty { IfErr result (λ error. error ≢ CaptureError.ReadFault → self.old.progress ≡ Progress.Reading
             → IfSome (S.left source.old) (λ bytes. IsFaultyRest self.old.format self.old.taken bytes error)) }
         ensures named { self.old.progress ≡ Progress.Reading → IfErr result (IsRecordFault self.old.taken) }
-        ensures later { S.faults source.old ≤ S.faults source.new }
-        ensures fault { self.old.progress ≡ Progress.Reading → result ≡ Err CaptureError.ReadFault
-            → Rose (S.faults source.old) (S.faults source.new) }
+        ensures takes { self.old.progress ≡ Progress.Reading → IfSome (S.left source.old) (λ bytes.
+            Takes (next_size self.old.format self.old.taken bytes) (Some bytes) (S.left source.new) result) }
+
+        // However many calls are made, all that they took stays within a reader's reach.
+        ensures reach { (start : Option (List ℕ)) → GivesAtMost (reach self.old) start (S.left source.old)
+            → GivesAtMost (reach self.new) start (S.left source.new) }
+
+        ensures counts { self.old.progress ≡ Progress.Reading → CountsReadFault S.faults source.old source.new result }
     {
         match self.progress {
             Progress::Reading => {}
@@ -141,8 +147,9 @@ impl Reader {
         ensures faulty { IfErr result (λ error. error ≢ CaptureError.ReadFault
             → IfSome (S.left source.old) (λ bytes. IsFaultyRest self.now.format self.now.taken bytes error)) }
         ensures named { IfErr result (IsRecordFault self.now.taken) }
-        ensures later { S.faults source.old ≤ S.faults source.new }
-        ensures fault { result ≡ Err CaptureError.ReadFault → Rose (S.faults source.old) (S.faults source.new) }
+        ensures takes { IfSome (S.left source.old) (λ bytes.
+            Takes (next_size self.now.format self.now.taken bytes) (Some bytes) (S.left source.new) result) }
+        ensures counts { CountsReadFault S.faults source.old source.new result }
     {
         if self.taken == LIMIT {
             return self.take_end(source);
@@ -173,8 +180,9 @@ impl Reader {
         ensures faulty { IfErr result (λ error. error ≢ CaptureError.ReadFault
             → IfSome (S.left source.old) (λ bytes. IsFaultyRest self.now.format self.now.taken bytes error)) }
         ensures named { IfErr result (IsRecordFault self.now.taken) }
-        ensures later { S.faults source.old ≤ S.faults source.new }
-        ensures fault { result ≡ Err CaptureError.ReadFault → Rose (S.faults source.old) (S.faults source.new) }
+        ensures takes { IfSome (S.left source.old) (λ bytes.
+            Takes (next_size self.now.format self.now.taken bytes) (Some bytes) (S.left source.new) result) }
+        ensures counts { CountsReadFault S.faults source.old source.new result }
     {
         let mut byte = [0; 1];
         let count = fill(source, &mut byte)?;
@@ -189,11 +197,11 @@ impl Reader {
     fn captured(&self, header: &[u8]) -> Result<u32, CaptureError>
         requires { self.now.taken < RECORDS }
         ensures captured { IfOk result (λ captured.
-            (self.now.taken < RECORDS) × (16 ≤ length header.now) × (captured ≡ captured_in self.now.format header.now) × (captured ≤ CAPTURED)) }
+            (self.now.taken < RECORDS) × (RECORD_HEADER_SIZE ≤ length header.now) × (captured ≡ captured_in self.now.format header.now) × (captured ≤ CAPTURED)) }
         ensures fault { IfErr result (λ error. error ≡ rest_fault self.now.format self.now.taken header.now) }
-        ensures test { OnErr result ((length header.now < 16) ⊎ (CAPTURED < captured_in self.now.format header.now)) }
+        ensures test { OnErr result ((length header.now < RECORD_HEADER_SIZE) ⊎ (CAPTURED < captured_in self.now.format header.now)) }
         ensures named { IfErr result (IsRecordFault self.now.taken) }
-        ensures told { result ≢ Err CaptureError.ReadFault }
+        ensures told { IfErr result (λ error. (error ≢ CaptureError.ReadFault) × (self.now.taken < RECORDS)) }
     {
         if header.len() < RECORD_HEADER {
             return Err(self.short_record());

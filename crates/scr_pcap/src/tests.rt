@@ -1,4 +1,4 @@
-use crate::{CaptureError, FrameBuf, Reader, RecordInfo, one_reading, some_reading};
+use crate::{CaptureError, FrameBuf, Reader, RecordInfo, most_bytes, one_reading, some_reading};
 use scr_base::{MemSource, OutOfMemory, Source, SureSource};
 use std::alloc::Global;
 use std::process::Abort;
@@ -198,4 +198,5 @@ fn answers_a_failed_read_again(rt: HostRuntime) -> Result<(), Fail> {
 fn laws_are_called(_rt: HostRuntime) {
     some_reading();
     one_reading();
+    most_bytes();
 }

@@ -109,4 +109,4 @@ pub record IsRefused (text : List ℕ) (cause : DropCause) (place : ℕ) : Type 
 -- the error of a text that isn't read
 abbrev pub RefusedBy : List ℕ → DropError → Type 0
 RefusedBy text (Refused cause place) = IsRefused text cause place
-RefusedBy text OutOfMemory = Unit {0}
+RefusedBy text (OutOfMemory want) = Unit {0}

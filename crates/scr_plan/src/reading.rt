@@ -40,17 +40,18 @@ pub enum DropError {
         place: u64,
     },
     /// There was no memory for the list.
-    OutOfMemory,
+    OutOfMemory(OutOfMemory),
 }
 
 impl From<AllocFailed<DropRange>> for DropError {
     ghost use Rattle.std.specs.Prelude.{◌≡◌};
-    ghost use Rattle.scr_plan.specs.declared.reading.DropError.TheVariants.{OutOfMemory};
+    ghost use Rattle.scr_base.specs.declared.out_of_memory.OutOfMemory as base;
+    ghost use Rattle.scr_plan.specs.declared.reading.DropError.TheVariants as error;
 
-    ghost from_gives = { λ _ error. error ≡ OutOfMemory };
+    ghost from_gives = { λ _ made. (want : base.OutOfMemory) × (made ≡ error.OutOfMemory want) };
 
-    fn from(_: AllocFailed<DropRange>) -> Self {
-        DropError::OutOfMemory
+    fn from(failed: AllocFailed<DropRange>) -> Self {
+        DropError::OutOfMemory(failed.into())
     }
 }
 

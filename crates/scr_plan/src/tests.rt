@@ -13,7 +13,7 @@ fn refusal(alloc: Global, text: &[u8]) -> Result<Option<(DropCause, u64)>, OutOf
     match Drops::read(alloc, text) {
         Ok(_) => Ok(None),
         Err(DropError::Refused { cause, place }) => Ok(Some((cause, place))),
-        Err(DropError::OutOfMemory) => Err(OutOfMemory),
+        Err(DropError::OutOfMemory(want)) => Err(want),
     }
 }
 

@@ -255,9 +255,9 @@ fn make_room<K: FlowKey, V: Copy + Drop>(
     }
     let cap = cache.cap();
     cache.resize(cap.saturating_add(1));
-    if cache.put(key, None).is_err() {
+    if let Err(failed) = cache.put(key, None) {
         cache.resize(cap);
-        return Err(OutOfMemory);
+        return Err(failed.into());
     }
     Ok(())
 }

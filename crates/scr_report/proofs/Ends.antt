@@ -6,6 +6,7 @@ use Rattle.std.proofs.lemmas.List.Elements.{All-head, All-nil}
 use Rattle.scr_plan.specs.declared.given.Given.{Given}
 use Rattle.scr_plan.specs.declared.counting.CoreCounts.{CoreCounts}
 use Rattle.scr_report.specs.declared.report.ReportError.{ReportError}
+use Rattle.scr_report.specs.Memory.{IsOfText}
 use Rattle.scr_report.specs.declared.report.ReportError.TheVariants.{Line, Ended, OutOfMemory}
 use Rattle.scr_report.specs.Text.{name_at, verdict_line, frames_line, core_line, flows_line, total_line}
 use Rattle.scr_report.specs.Outcome.{Outcome, counter_lines, report_lines}
@@ -241,7 +242,7 @@ spelled names bytes start a b c e g verdicts f d k cores flows totals text_is vs
     }
 
 -- want of memory says nothing
-pub but_for_memory : (names : List (List ℕ)) (bytes : List ℕ) (error : ReportError) → (error ≢ OutOfMemory → ReadsAs names bytes (Err error)) → ReadsAs names bytes (Err error)
-but_for_memory names bytes OutOfMemory is = tt
-but_for_memory names bytes (Line n) is = is (λ same. cc)
-but_for_memory names bytes (Ended n) is = is (λ same. cc)
+pub but_for_memory : (names : List (List ℕ)) (bytes : List ℕ) (error : ReportError) → (IsOfText error → ReadsAs names bytes (Err error)) → ReadsAs names bytes (Err error)
+but_for_memory names bytes (OutOfMemory want) is = tt
+but_for_memory names bytes (Line n) is = is tt
+but_for_memory names bytes (Ended n) is = is tt

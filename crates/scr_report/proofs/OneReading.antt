@@ -5,6 +5,8 @@ use Rattle.std.proofs.lemmas.Bool.{cases_order}
 use Rattle.std.proofs.lemmas.List.{append-nil, take-append-drop, take-take}
 use Rattle.std.proofs.lemmas.List.Elements.{All-head, All-tail}
 use Rattle.scr_report.specs.declared.report.ReportError.{ReportError}
+use Rattle.std.specs.Prelude.{IfErr}
+use Rattle.scr_report.specs.Memory.{IsOfText}
 use Rattle.scr_report.specs.declared.report.ReportError.TheVariants.{Line, Ended, OutOfMemory}
 use Rattle.scr_report.specs.Text.{verdict_line, frames_line, core_line, flows_line, total_line}
 use Rattle.scr_report.specs.Outcome.{Outcome, report_lines}
@@ -72,12 +74,12 @@ bad-first names bytes m n is_m is_n before =
     is_m.refused (subst P (take-take m (n - 1) (lines_in bytes) (omega arith)) (begins-take names m (take (n - 1) (lines_in bytes)) is_n.before))
 
 -- one reading
-pub ReadsAs-same : (names : List (List ℕ)) (bytes : List ℕ) (one other : Result Outcome ReportError) → one ≢ Err OutOfMemory → other ≢ Err OutOfMemory
+pub ReadsAs-same : (names : List (List ℕ)) (bytes : List ℕ) (one other : Result Outcome ReportError) → IfErr one IsOfText → IfErr other IsOfText
     → ReadsAs names bytes one → ReadsAs names bytes other → other ≡ one
-ReadsAs-same names bytes (Err OutOfMemory) other had has is is_other = absurd (had refl)
-ReadsAs-same names bytes (Ok a) (Err OutOfMemory) had has is is_other = absurd (has refl)
-ReadsAs-same names bytes (Err (Line n)) (Err OutOfMemory) had has is is_other = absurd (has refl)
-ReadsAs-same names bytes (Err (Ended n)) (Err OutOfMemory) had has is is_other = absurd (has refl)
+ReadsAs-same names bytes (Err (OutOfMemory want)) other had has is is_other = absurd had
+ReadsAs-same names bytes (Ok a) (Err (OutOfMemory want)) had has is is_other = absurd has
+ReadsAs-same names bytes (Err (Line n)) (Err (OutOfMemory want)) had has is is_other = absurd has
+ReadsAs-same names bytes (Err (Ended n)) (Err (OutOfMemory want)) had has is is_other = absurd has
 ReadsAs-same names bytes (Ok a) (Ok b) had has is is_other =
     ap Ok (report_lines-same names b a is_other.readable is.readable (sym is_other.lines ∙ is.lines))
 ReadsAs-same names bytes (Ok a) (Err (Line n)) had has is is_other =

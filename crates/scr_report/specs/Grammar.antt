@@ -79,4 +79,4 @@ abbrev pub ReadsAs : List (List ℕ) → List ℕ → Result Outcome ReportError
 ReadsAs names bytes (Ok outcome) = Spells names bytes outcome
 ReadsAs names bytes (Err (Line number)) = IsBadLine names bytes number
 ReadsAs names bytes (Err (Ended number)) = IsEndedAt names bytes number
-ReadsAs names bytes (Err OutOfMemory) = Unit {0}
+ReadsAs names bytes (Err (OutOfMemory want)) = Unit {0}

@@ -3,3 +3,4 @@ pub mod Outcome
 pub mod Grammar
 pub mod Parts
 pub mod ReadBack
+pub mod Memory

@@ -1,8 +1,8 @@
-ghost use Rattle.std.specs.Prelude.{◌≡◌, ◌≢◌, ℕ, ◌<◌, ◌≤◌, ◌^◌, List, All, true, IsTrue, MatchBool, length, ◌==◌};
-ghost use Rattle.std.specs.List.{list_any};
+ghost use Rattle.std.specs.Prelude.{◌≡◌, ◌≢◌, ℕ, ◌<◌, ◌≤◌, ◌^◌, ◌++◌, List, All, true, false, IsTrue, MatchBool, length, ◌==◌};
+ghost use Rattle.std.specs.List.{list_any, concat};
 ghost use Rattle.scr_plan.specs.declared.given.Given.{Given};
 ghost use Rattle.scr_report.specs.Text.{name_at};
-ghost use Rattle.scr_report.specs.Outcome.{report_text};
+ghost use Rattle.scr_report.specs.Outcome.{Outcome, verdict_lines, report_text};
 ghost use Rattle.scr_report.specs.Grammar.{Spells, AreCounts};
 ghost use Rattle.scr_report.specs.ReadBack.{ArePlain, Grow, IsPlain};
 
@@ -114,3 +114,9 @@ fn tell_count(counts: CoreCounts)
     let _first = (counts.delivered, counts.carried);
     let _last = (counts.recovered, counts.skipped);
 }
+
+/// A report with the lines of its verdicts is these lines, and then the report without them.
+pub fn verdicts_then_rest()
+    ensures { (names : List (List ℕ)) (outcome : Outcome)
+        → report_text names outcome true ≡ concat (verdict_lines names outcome) ++ report_text names outcome false }
+{}

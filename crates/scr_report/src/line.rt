@@ -6,15 +6,8 @@ ghost use Rattle.scr_report.specs.Grammar.{MayFollow, AreCounts};
 
 use crate::names::Names;
 use crate::number::{before_feed, behind, number_behind};
+use crate::report::FrameCounts;
 use scr_plan::{CoreCounts, Given};
-
-// The counts of the frames line.
-#[derive(Clone, Copy)]
-pub struct FrameCounts {
-    pub frames: u32,
-    pub delivered: u32,
-    pub kept: u32,
-}
 
 // Whether a line ends here.
 fn ends(rest: &[u8]) -> bool

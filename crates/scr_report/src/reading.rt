@@ -1,13 +1,14 @@
-ghost use Rattle.std.specs.Prelude.{◌≡◌, ◌≢◌, ℕ, ◌<◌, ◌^◌, length, Result, Err, MatchResult};
+ghost use Rattle.std.specs.Prelude.{◌≡◌, ℕ, ◌<◌, ◌^◌, length, Result, IfErr, MatchResult};
 ghost use Rattle.scr_report.specs.declared.report.ReportError.{ReportError};
 ghost use Rattle.scr_report.specs.Outcome.{Outcome};
 ghost use Rattle.scr_report.specs.Grammar.{ReadsAs};
+ghost use Rattle.scr_report.specs.Memory.{IsOfMemory, IsOfText};
 ghost use Rattle.scr_report.specs.Parts.{ReadsVerdicts, ReadsFrames, LacksFrames, ReadsCores, ReadsFlows, LacksFlows, ReadsTotals, LacksTotal};
 
-use crate::line::{FrameCounts, core_in, flows_in, frames_in, total_in, verdict_in};
+use crate::line::{core_in, flows_in, frames_in, total_in, verdict_in};
 use crate::lines::Lines;
 use crate::names::Names;
-use crate::report::{Report, ReportError};
+use crate::report::{FrameCounts, Report, ReportError};
 use scr_plan::{CoreCounts, Given};
 use std::alloc::Global;
 
@@ -19,8 +20,8 @@ const MOST_CORES: usize = 16;
 pub fn read_report(alloc: Global, names: &Names, bytes: &[u8]) -> Result<Report, ReportError>
     requires { length bytes.now < 2 ^ 32 }
     ensures answer { ReadsAs names.now bytes.now result }
-    ensures only { result ≢ Err ReportError.OutOfMemory → (other : Result Outcome ReportError)
-        → other ≢ Err ReportError.OutOfMemory → ReadsAs names.now bytes.now other → other ≡ result }
+    ensures only { IfErr result IsOfText → (other : Result Outcome ReportError) → IfErr other IsOfText
+        → ReadsAs names.now bytes.now other → other ≡ result }
 {
     let mut lines = Lines::of(bytes);
     let verdicts = read_verdicts(alloc, names, &mut lines)?;
@@ -45,7 +46,7 @@ pub fn read_report(alloc: Global, names: &Names, bytes: &[u8]) -> Result<Report,
 // The verdict lines, as many as there are.
 fn read_verdicts(alloc: Global, names: &Names, lines: &mut Lines) -> Result<Vec<Given>, ReportError>
     ensures { MatchResult result (λ verdicts. ReadsVerdicts names.now lines.old lines.new verdicts.items)
-        (λ error. error ≡ ReportError.OutOfMemory) }
+        IsOfMemory }
 {
     let mut verdicts = Vec::new(alloc);
     let mut last = 0;
@@ -71,7 +72,7 @@ fn read_frames(lines: &mut Lines) -> Result<FrameCounts, ReportError>
 // The core lines, as many as there are.
 fn read_cores(alloc: Global, lines: &mut Lines) -> Result<Vec<CoreCounts>, ReportError>
     ensures { MatchResult result (λ cores. ReadsCores lines.old lines.new cores.items)
-        (λ error. error ≡ ReportError.OutOfMemory) }
+        IsOfMemory }
 {
     let mut cores = Vec::new(alloc);
     for core in 0..MOST_CORES {
@@ -98,7 +99,7 @@ fn read_flows(lines: &mut Lines) -> Result<u64, ReportError>
 fn read_totals(alloc: Global, names: &Names, lines: &mut Lines) -> Result<Vec<u64>, ReportError>
     ensures { MatchResult result
         (λ totals. ReadsTotals names.now lines.old lines.new totals.items × (length totals.items ≡ length names.now))
-        (λ error. error ≢ ReportError.OutOfMemory → LacksTotal names.now lines.old lines.new error) }
+        (λ error. IsOfText error → LacksTotal names.now lines.old lines.new error) }
 {
     let mut totals = Vec::new(alloc);
     for place in 0..names.len() {

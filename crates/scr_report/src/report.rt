@@ -1,8 +1,23 @@
-ghost use Rattle.scr_report.specs.Outcome.{Outcome};
+ghost use Rattle.std.specs.Prelude.{◌≡◌, IfOk};
+ghost use Rattle.scr_report.specs.Outcome.{Outcome, report_of};
 
+use crate::names::Names;
+use crate::totals::totals_of;
+use scr_base::OutOfMemory;
 use scr_plan::{CoreCounts, Given};
-use std::alloc::AllocFailed;
+use std::alloc::{AllocFailed, Global};
 use std::marker::Model;
+
+/// The counts of the line of frames.
+#[derive(Clone, Copy, Debug, PartialEq, Eq)]
+pub struct FrameCounts {
+    /// How many frames there are.
+    pub frames: u32,
+    /// How many of them were delivered.
+    pub delivered: u32,
+    /// How many packets some delivered frame carries.
+    pub kept: u32,
+}
 
 /// What a run found.
 #[derive(Debug, Drop)]
@@ -24,6 +39,8 @@ pub struct Report {
 }
 
 impl Model for Report {
+    ghost use Rattle.scr_report.specs.Outcome.{Outcome};
+
     ghost Value = { Outcome };
 
     ghost view = { λ report. record {
@@ -37,6 +54,31 @@ impl Model for Report {
     } };
 }
 
+impl Report {
+    /// The report of these verdicts and counts. How often each name was given is counted here.
+    pub fn of(
+        alloc: Global,
+        names: &Names,
+        verdicts: Vec<Given>,
+        counts: FrameCounts,
+        cores: Vec<CoreCounts>,
+        flows: u64,
+    ) -> Result<Self, OutOfMemory>
+        ensures { IfOk result (λ report. report ≡ report_of names.now verdicts.items counts.frames counts.delivered counts.kept cores.items flows) }
+    {
+        let totals = totals_of(alloc, names, &verdicts)?;
+        Ok(Report {
+            verdicts,
+            frames: counts.frames,
+            delivered: counts.delivered,
+            kept: counts.kept,
+            cores,
+            flows,
+            totals,
+        })
+    }
+}
+
 /// Why some bytes are no report.
 #[derive(Clone, Copy, Debug, PartialEq, Eq)]
 pub enum ReportError {
@@ -45,16 +87,15 @@ pub enum ReportError {
     /// The bytes end behind whole lines that are allowed, and this line is missing.
     Ended { line: u32 },
     /// There was no memory for the report.
-    OutOfMemory,
+    OutOfMemory(OutOfMemory),
 }
 
 impl<T: Drop> From<AllocFailed<T>> for ReportError {
-    ghost use Rattle.std.specs.Prelude.{◌≡◌};
-    ghost use Rattle.scr_report.specs.declared.report.ReportError.TheVariants.{OutOfMemory};
+    ghost use Rattle.scr_report.specs.Memory.{IsOfMemory};
 
-    ghost from_gives = { λ _ error. error ≡ OutOfMemory };
+    ghost from_gives = { λ _ error. IsOfMemory error };
 
-    fn from(_: AllocFailed<T>) -> Self {
-        ReportError::OutOfMemory
+    fn from(failed: AllocFailed<T>) -> Self {
+        ReportError::OutOfMemory(failed.into())
     }
 }

@@ -1,4 +1,7 @@
-use crate::{Names, Report, ReportError, is_plain, read_report, write_line, write_report};
+use crate::{
+    FrameCounts, Names, Report, ReportError, is_plain, read_report, verdicts_then_rest, write_line,
+    write_report,
+};
 use scr_base::{MemSink, OutOfMemory, Sink, SinkError, SureSink, Verdict};
 use scr_plan::{CoreCounts, Given};
 use std::alloc::Global;
@@ -31,9 +34,7 @@ fn names_of(rt: &impl Abort, alloc: Global, texts: &[&str]) -> Result<Names, Out
 }
 
 fn read(rt: &impl Abort, alloc: Global, texts: &[&str], text: &str) -> Result<Report, ReportError> {
-    let Ok(names) = names_of(rt, alloc, texts) else {
-        return Err(ReportError::OutOfMemory);
-    };
+    let names = names_of(rt, alloc, texts).map_err(ReportError::OutOfMemory)?;
     assert!(rt; text.len() < 1000);
     read_report(alloc, &names, text.as_bytes())
 }
@@ -205,13 +206,42 @@ fn write_worked<O: Sink>(
     with_verdicts: bool,
     out: &mut O,
 ) -> Result<(), SinkError> {
-    let names = names_of(rt, alloc, &DDOS);
-    let report = read(rt, alloc, &DDOS, WORKED);
-    let (Ok(names), Ok(report)) = (names, report) else {
-        return Err(SinkError::OutOfMemory);
+    let names = names_of(rt, alloc, &DDOS).map_err(SinkError::OutOfMemory)?;
+    let report = match read(rt, alloc, &DDOS, WORKED) {
+        Ok(report) => report,
+        Err(ReportError::OutOfMemory(want)) => return Err(SinkError::OutOfMemory(want)),
+        Err(_) => return Err(SinkError::Failed),
     };
     assert!(rt; is_plain(&names, &report));
     write_report(&names, &report, with_verdicts, out)
+}
+
+#[test]
+fn counts_the_names(rt: HostRuntime) -> Result<(), Fail> {
+    let names = names_of(&rt, rt.alloc(), &DDOS)?;
+    let mut verdicts = Vec::new(rt.alloc());
+    for (number, verdict) in [(1, 0), (2, 2), (3, 0)] {
+        verdicts.push(Given {
+            number,
+            verdict: Verdict(verdict),
+        })?;
+    }
+    let counts = FrameCounts {
+        frames: 3,
+        delivered: 3,
+        kept: 3,
+    };
+    let report = Report::of(
+        rt.alloc(),
+        &names,
+        verdicts,
+        counts,
+        Vec::new(rt.alloc()),
+        1,
+    )?;
+    assert_eq!(rt; report.totals.as_slice(), &[2u64, 0, 1][..]);
+    verdicts_then_rest();
+    Ok(())
 }
 
 #[test]

@@ -1,6 +1,6 @@
 ghost use Rattle.std.specs.Prelude.{◌≡◌, ◌<◌, ◌++◌, ◌∷◌, [], All, length, map, true, if◌then◌else◌};
 ghost use Rattle.std.specs.List.{concat, zip, enumerate_from};
-ghost use Rattle.scr_base.specs.Causes.{HasSinkCause};
+ghost use Rattle.scr_base.specs.Causes.{CountsError};
 ghost use Rattle.scr_base.specs.Streams.{WritesText, BatchesText};
 ghost use Rattle.scr_report.specs.Text.{name_at, named_line, verdict_line, frames_line, core_line, flows_line, total_line};
 ghost use Rattle.scr_report.specs.Outcome.{verdict_lines, counter_lines, report_text};
@@ -10,7 +10,7 @@ use crate::report::Report;
 use scr_base::{Batch, Piece, Sink, SinkError, put_all, put_decimal};
 use scr_plan::{CoreCounts, Given};
 
-/// Writes a report, without the lines of its verdicts where these aren't wanted. At `Err` a front of it is written.
+/// Writes a report, without the lines of its verdicts where these aren't wanted. At `Err` a front of it is written, and not all.
 pub fn write_report<O: Sink>(
     names: &Names,
     report: &Report,
@@ -20,7 +20,7 @@ pub fn write_report<O: Sink>(
     requires named { All (λ given. given.verdict.0 < length names.now) report.now.verdicts }
     requires a_total_each { length report.now.totals ≡ length names.now }
     ensures text { WritesText (O.written out.old) (O.written out.new) result (report_text names.now report.now with_verdicts) }
-    ensures cause { HasSinkCause O.faults O.wants out.old out.new result }
+    ensures cause { CountsError O.faults O.wants out.old out.new result }
 {
     let mut batch = Batch::new();
     put_report(names, report, with_verdicts, &mut batch, out)?;
@@ -37,7 +37,7 @@ fn put_report<O: Sink>(
     requires named { All (λ given. given.verdict.0 < length names.now) report.now.verdicts }
     requires a_total_each { length report.now.totals ≡ length names.now }
     ensures text { BatchesText (O.written out.old) (O.written out.new) batch.old batch.new result (report_text names.now report.now with_verdicts) }
-    ensures cause { HasSinkCause O.faults O.wants out.old out.new result }
+    ensures cause { CountsError O.faults O.wants out.old out.new result }
 {
     put_verdicts(names, chosen(report, with_verdicts), batch, out)?;
     put_counters(names, report, batch, out)
@@ -59,7 +59,7 @@ fn put_verdicts<O: Sink>(
     requires { All (λ given. given.verdict.0 < length names.now) verdicts.now }
     ensures text { BatchesText (O.written out.old) (O.written out.new) batch.old batch.new result
         (concat (map (verdict_line names.now) verdicts.now)) }
-    ensures cause { HasSinkCause O.faults O.wants out.old out.new result }
+    ensures cause { CountsError O.faults O.wants out.old out.new result }
 {
     for given in verdicts {
         put_line(names.get(given.verdict.0.into()), given.number, batch, out)?;
@@ -75,7 +75,7 @@ pub fn put_line<O: Sink>(
     out: &mut O,
 ) -> Result<(), SinkError>
     ensures text { BatchesText (O.written out.old) (O.written out.new) batch.old batch.new result (named_line name.now number) }
-    ensures cause { HasSinkCause O.faults O.wants out.old out.new result }
+    ensures cause { CountsError O.faults O.wants out.old out.new result }
 {
     batch.put_pieces(
         out,
@@ -88,10 +88,10 @@ pub fn put_line<O: Sink>(
     )
 }
 
-/// Writes the line of a frame's verdict, by its name. At `Err` a front of it is written.
+/// Writes the line of a frame's verdict, by its name. At `Err` a front of it is written, and not all.
 pub fn write_line<O: Sink>(name: &str, number: u32, out: &mut O) -> Result<(), SinkError>
     ensures text { WritesText (O.written out.old) (O.written out.new) result (named_line name.now number) }
-    ensures cause { HasSinkCause O.faults O.wants out.old out.new result }
+    ensures cause { CountsError O.faults O.wants out.old out.new result }
 {
     put_decimal(out, number.into())?;
     put_all(out, b" ")?;
@@ -108,7 +108,7 @@ fn put_counters<O: Sink>(
     requires { length report.now.totals ≡ length names.now }
     ensures text { BatchesText (O.written out.old) (O.written out.new) batch.old batch.new result
         (concat (counter_lines names.now report.now)) }
-    ensures cause { HasSinkCause O.faults O.wants out.old out.new result }
+    ensures cause { CountsError O.faults O.wants out.old out.new result }
 {
     put_frames(report.frames, report.delivered, report.kept, batch, out)?;
     put_cores(&report.cores, batch, out)?;
@@ -124,7 +124,7 @@ fn put_frames<O: Sink>(
     out: &mut O,
 ) -> Result<(), SinkError>
     ensures text { BatchesText (O.written out.old) (O.written out.new) batch.old batch.new result (frames_line frames delivered kept) }
-    ensures cause { HasSinkCause O.faults O.wants out.old out.new result }
+    ensures cause { CountsError O.faults O.wants out.old out.new result }
 {
     batch.put_pieces(
         out,
@@ -143,7 +143,7 @@ fn put_frames<O: Sink>(
 fn put_cores<O: Sink>(cores: &[CoreCounts], batch: &mut Batch, out: &mut O) -> Result<(), SinkError>
     ensures text { BatchesText (O.written out.old) (O.written out.new) batch.old batch.new result
         (concat (map core_line (enumerate_from 0 cores.now))) }
-    ensures cause { HasSinkCause O.faults O.wants out.old out.new result }
+    ensures cause { CountsError O.faults O.wants out.old out.new result }
 {
     for (core, counts) in cores.iter().enumerate() {
         put_core(core as u64, *counts, batch, out)?;
@@ -158,7 +158,7 @@ fn put_core<O: Sink>(
     out: &mut O,
 ) -> Result<(), SinkError>
     ensures text { BatchesText (O.written out.old) (O.written out.new) batch.old batch.new result (core_line (core, counts)) }
-    ensures cause { HasSinkCause O.faults O.wants out.old out.new result }
+    ensures cause { CountsError O.faults O.wants out.old out.new result }
 {
     batch.put_pieces(
         out,
@@ -180,7 +180,7 @@ fn put_core<O: Sink>(
 
 fn put_flows<O: Sink>(flows: u64, batch: &mut Batch, out: &mut O) -> Result<(), SinkError>
     ensures text { BatchesText (O.written out.old) (O.written out.new) batch.old batch.new result (flows_line flows) }
-    ensures cause { HasSinkCause O.faults O.wants out.old out.new result }
+    ensures cause { CountsError O.faults O.wants out.old out.new result }
 {
     batch.put_pieces(
         out,
@@ -201,7 +201,7 @@ fn put_totals<O: Sink>(
     requires { length totals.now ≡ length names.now }
     ensures text { BatchesText (O.written out.old) (O.written out.new) batch.old batch.new result
         (concat (map total_line (zip names.now totals.now))) }
-    ensures cause { HasSinkCause O.faults O.wants out.old out.new result }
+    ensures cause { CountsError O.faults O.wants out.old out.new result }
 {
     for (place, total) in totals.iter().enumerate() {
         put_total(names.get(place), *total, batch, out)?;
@@ -216,7 +216,7 @@ fn put_total<O: Sink>(
     out: &mut O,
 ) -> Result<(), SinkError>
     ensures text { BatchesText (O.written out.old) (O.written out.new) batch.old batch.new result (total_line (name.now, total)) }
-    ensures cause { HasSinkCause O.faults O.wants out.old out.new result }
+    ensures cause { CountsError O.faults O.wants out.old out.new result }
 {
     batch.put_pieces(
         out,

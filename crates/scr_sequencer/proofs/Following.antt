@@ -6,7 +6,7 @@ use Rattle.std.proofs.lemmas.List.{length-append, length-drop, length-take-le, t
 use Rattle.std.proofs.lemmas.Option.{get_or_from_slice_get, slice_get_within}
 use Rattle.circular_buffer.specs.Buffer.{keep_last}
 use Rattle.scr_base.specs.declared.row.Row.{Row}
-use Rattle.scr_base.specs.declared.word.OutOfMemory.{OutOfMemory}
+use Rattle.scr_base.specs.declared.out_of_memory.OutOfMemory.{OutOfMemory}
 use Rattle.scr_plan.specs.Drops.{has_number}
 use Rattle.scr_plan.specs.Delivered.{delivers}
 use Rattle.scr_plan.specs.Plan.{Plan, frame_count}

@@ -1,4 +1,4 @@
-use Rattle.std.proofs.Common.{◌≤◌, length, subst, sym, arith}
+use Rattle.std.proofs.Common.{◌≤◌, ◌∙◌, length, subst, sym, arith}
 use Rattle.std.proofs.lemmas.Grind.{common_steps}
 use Rattle.std.specs.Io.KnownBytes.{Consumes}
 use Rattle.scr_pcap.proofs.Taking.{Consumes-then, take-put_mid_front}
@@ -15,5 +15,5 @@ loop-count-preserved g c =
       grind (arith, common_steps),
       subst (Consumes (source.left c.args.source.now) (source.left c.read.new.self)) (sym front)
           (Consumes-then _ _ _ _ _ c.loop-count.invariant.1 more.bytes.0),
-      omega (arith, more.cause.later),
+      more.cause.ok ∙ c.loop-count.invariant.2,
     )

@@ -22,8 +22,8 @@ loop-core-preserved g c =
       passed = line-more core_line (enumerate_from 0 c.args.cores.now) c.loop-core.core (0, none) (c.loop-core.core, get_or c.args.cores.now c.loop-core.core none) _ _ _ _ _ _
           (omega (arith, length-enumerate_from 0 c.args.cores.now, c.loop-core-test.true)) (enumerated c.args.cores.now c.loop-core.core none c.loop-core-test.true)
           c.loop-core.invariant.passed c.in_ok-put_core.ensures.text;
-      faults = omega arith;
-      wants = omega arith;
+      faults = grind arith;
+      wants = grind arith;
     }
 
 pub returns-clause-text : goal.returns-clause-text

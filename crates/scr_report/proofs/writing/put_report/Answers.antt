@@ -2,7 +2,7 @@ use Rattle.std.proofs.Common.{◌++◌, ◌<◌, List, ℕ, length, map, subst}
 use Rattle.std.specs.List.{concat}
 use Rattle.std.proofs.lemmas.Result.{err_from_is_err_and}
 use Rattle.std.proofs.lemmas.List.Elements.{All-same}
-use Rattle.scr_base.specs.Streams.{AppendsPrefix, BatchesText}
+use Rattle.scr_base.specs.Streams.{StopsWithin, BatchesText}
 use Rattle.scr_plan.specs.declared.given.Given.{Given}
 use Rattle.scr_report.specs.Text.{verdict_line}
 use Rattle.scr_report.specs.Outcome.{counter_lines}
@@ -18,7 +18,7 @@ pub returns-in_err-put_verdicts-clause-text : goal.returns-in_err-put_verdicts-c
 returns-in_err-put_verdicts-clause-text g c =
     let failed = err_from_is_err_and c.from_residual.result c.from_residual.ensures.1 in
     let counters : List (List ℕ) = counter_lines c.args.names.now c.args.report.now in
-    let P : List Given → Type 0 = λ t. AppendsPrefix (g.O.Sink.written c.args.out.now) (g.O.Sink.written c.put_verdicts.new.out) (c.args.batch.now ++ concat (map (verdict_line c.args.names.now) t ++ counters)) in
+    let P : List Given → Type 0 = λ t. StopsWithin (g.O.Sink.written c.args.out.now) (g.O.Sink.written c.put_verdicts.new.out) (c.args.batch.now ++ concat (map (verdict_line c.args.names.now) t ++ counters)) in
     rw failed.1 (subst P c.chosen.ensures (two-fail (map (verdict_line c.args.names.now) c.chosen.result.now) counters _ _ _ c.in_err-put_verdicts.ensures.text))
 
 pub returns-clause-text : goal.returns-clause-text
