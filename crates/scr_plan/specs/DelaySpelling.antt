@@ -69,4 +69,4 @@ pub record IsDelayRefused (text : List ℕ) (cause : DelayCause) (place : ℕ) :
 -- the error of a text that isn't read
 abbrev pub DelaysRefusedBy : List ℕ → DelayError → Type 0
 DelaysRefusedBy text (Refused cause place) = IsDelayRefused text cause place
-DelaysRefusedBy text OutOfMemory = Unit {0}
+DelaysRefusedBy text (OutOfMemory want) = Unit {0}

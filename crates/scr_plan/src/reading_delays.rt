@@ -5,7 +5,7 @@ ghost use Rattle.scr_plan.specs.DelaySpelling.{SpellsDelays, DelaysRefusedBy, de
 
 use crate::delays::FrameDelay;
 use crate::reading::{GREATEST, MOST, split_once};
-use scr_base::{NumberError, read_number};
+use scr_base::{NumberError, OutOfMemory, read_number};
 use std::alloc::{AllocFailed, Global};
 
 /// The greatest delay.
@@ -38,17 +38,18 @@ pub enum DelayError {
         place: u64,
     },
     /// There was no memory for the list.
-    OutOfMemory,
+    OutOfMemory(OutOfMemory),
 }
 
 impl From<AllocFailed<FrameDelay>> for DelayError {
     ghost use Rattle.std.specs.Prelude.{◌≡◌};
-    ghost use Rattle.scr_plan.specs.declared.reading_delays.DelayError.TheVariants.{OutOfMemory};
+    ghost use Rattle.scr_base.specs.declared.out_of_memory.OutOfMemory as base;
+    ghost use Rattle.scr_plan.specs.declared.reading_delays.DelayError.TheVariants as error;
 
-    ghost from_gives = { λ _ error. error ≡ OutOfMemory };
+    ghost from_gives = { λ _ made. (want : base.OutOfMemory) × (made ≡ error.OutOfMemory want) };
 
-    fn from(_: AllocFailed<FrameDelay>) -> Self {
-        DelayError::OutOfMemory
+    fn from(failed: AllocFailed<FrameDelay>) -> Self {
+        DelayError::OutOfMemory(failed.into())
     }
 }
 

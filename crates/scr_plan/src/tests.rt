@@ -347,7 +347,7 @@ fn refuses_delays_by_cause_and_place(rt: HostRuntime) -> Result<(), OutOfMemory>
         let refused = match Delays::read(rt.alloc(), text) {
             Ok(_) => None,
             Err(DelayError::Refused { cause, place }) => Some((cause, place)),
-            Err(DelayError::OutOfMemory) => return Err(OutOfMemory),
+            Err(DelayError::OutOfMemory(want)) => return Err(want),
         };
         assert_eq!(rt; refused, Some((cause, place)), "at {text:?}");
     }

@@ -15,7 +15,7 @@ use Rattle.scr_plan.proofs.reading_delays.read_delays.Goals as goal
 pub returns-in_err-push-in-Ok : goal.returns-in_err-push-in-Ok
 returns-in_err-push-in-Ok c =
     let p = err_from_is_err_and c.from_residual.result c.from_residual.ensures.1 in
-    rw (p.1, p.2) tt
+    rw (p.1, p.2.1) tt
 
 pub returns-in-Err : goal.returns-in-Err
 returns-in-Err c =
