@@ -1,5 +1,6 @@
-ghost use Rattle.std.specs.Prelude.{◌≡◌, ◌≢◌, ◌⊎◌, ◌≤◌, ◌<◌, ◌+◌, ℕ, List, Bool, true, length, drop, Option, Some, None, Ok, Err, IfOk, IfErr, IfSome, OnErr};
+ghost use Rattle.std.specs.Prelude.{◌≡◌, ◌≢◌, ◌⊎◌, ◌≤◌, ◌<◌, ◌+◌, ◌-◌, ◌++◌, ℕ, List, Bool, true, length, drop, Option, Some, None, Ok, Err, IfOk, IfErr, IfSome, OnErr};
 ghost use Rattle.std.specs.Io.KnownBytes.{IsAtEnd};
+ghost use Rattle.byteorder.specs.Endian.{big_bytes};
 ghost use Rattle.scr_pcap.specs.Header.{HEADER_SIZE, header_of, IsHeaderFault};
 ghost use Rattle.scr_pcap.specs.Records.{Record, RECORDS, CAPTURED, RECORD_HEADER_SIZE, TakesRecord, IsFaultyRest, IsRecordFault, rest_fault, captured_in};
 ghost use Rattle.scr_pcap.specs.State.{ReaderState, IsFresh, answer_of, reach};
@@ -74,8 +75,34 @@ impl Reader {
         ensures reach { IfOk result (λ reader. GivesAtMost (reach reader) (S.left source.old) (S.left source.new)) }
         ensures counts { CountsReadFault S.faults source.old source.new result }
     {
+        Self::begin_behind(source, [0; HEADER], 0)
+    }
+
+    /// As `begin`, where `first` holds the first four bytes, the highest first, which were taken ahead.
+    pub fn begin_after<S: Source>(first: u32, source: &mut S) -> Result<Self, CaptureError>
+        ensures fresh { IfOk result IsFresh }
+        ensures header { IfSome (S.left source.old) (λ bytes. IfOk result (λ reader.
+            (header_of (big_bytes 4 first ++ bytes) ≡ Ok reader.format) × (S.left source.new ≡ Some (drop (HEADER_SIZE - 4) bytes)))) }
+        ensures refused { IfSome (S.left source.old) (λ bytes. IfErr result (λ error.
+            error ≢ CaptureError.ReadFault → header_of (big_bytes 4 first ++ bytes) ≡ Err error)) }
+        ensures named { IfErr result IsHeaderFault }
+        ensures takes { Takes (HEADER_SIZE - 4) (S.left source.old) (S.left source.new) result }
+        ensures counts { CountsReadFault S.faults source.old source.new result }
+    {
         let mut header = [0; HEADER];
-        let count = fill(source, &mut header)?;
+        header[..4].copy_from_slice(&first.to_be_bytes());
+        Self::begin_behind(source, header, 4)
+    }
+
+    // Takes the header of a capture behind its first bytes, which were taken ahead.
+    fn begin_behind<S: Source>(
+        source: &mut S,
+        mut header: [u8; HEADER],
+        taken: usize,
+    ) -> Result<Self, CaptureError>
+        requires { taken ≤ HEADER_SIZE }
+    {
+        let count = taken + fill(source, &mut header[taken..])?;
         let format = header_of(&header[..count])?;
         Ok(Reader {
             format,

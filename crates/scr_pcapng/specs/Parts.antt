@@ -11,6 +11,11 @@ use Rattle.scr_pcapng.specs.declared.kind.Kind.TheVariants.{SectionHeader, Inter
 use Rattle.scr_base.specs.Causes.{counted}
 use Rattle.scr_pcapng.specs.declared.error.NgError.{NgError}
 use Rattle.scr_pcapng.specs.declared.error.NgError.TheVariants.{Cut}
+use Rattle.scr_pcapng.specs.declared.options.Found.{Found}
+use Rattle.scr_pcapng.specs.declared.options.Found.TheVariants.{Unit, Last, Another}
+use Rattle.scr_pcapng.specs.declared.taking.Step.{Step}
+use Rattle.scr_pcapng.specs.declared.taking.Step.TheVariants as step
+use Rattle.scr_pcapng.specs.declared.content.Content.TheVariants.{NewSection, NewInterface, Packet, Passed}
 use Rattle.scr_pcapng.specs.Options.{unit_in}
 use Rattle.scr_pcapng.specs.Contents.{Position, captured_by, records_in, records_with}
 use Rattle.scr_pcapng.specs.Blocks.{BLOCKS, IsBlock, front_of, head_of, kind_in, order_in, total_in}
@@ -111,3 +116,31 @@ IsStop block new (OutOfMemory want) = ⊥
 abbrev pub captured_of : Result Content NgError → ℕ
 captured_of (Ok content) = captured_by content
 captured_of (Err fault) = 0
+
+-- how many bytes of options were taken
+abbrev pub taken_by : Found → ℕ
+taken_by (Unit value) = 8
+taken_by Last = 4
+taken_by (Another taken) = taken
+
+-- what options tell of the unit, by what was found in front of others
+abbrev pub unit_by : Found → Option ℕ → Option ℕ
+unit_by (Unit value) others = Some value
+unit_by Last others = None
+unit_by (Another taken) others = others
+
+-- a source gave bytes of options, of which so many are left, and this was found in them
+pub record TakesOption (old new : Option (List ℕ)) (order : Order) (left : ℕ) (found : Found) : Type 0 where
+  pub bytes : List ℕ
+  pub taken : Consumes old new bytes
+  pub all : length bytes ≡ taken_by found
+  pub within : taken_by found ≤ left
+  pub some : 4 ≤ taken_by found
+  pub told : (behind : List ℕ) → length bytes + length behind ≡ left → unit_in order (bytes ++ behind) ≡ unit_by found (unit_in order behind)
+
+-- what the next block brought
+abbrev pub step_of : (packets : ℕ) → Content → Step
+step_of packets (NewSection order) = step.Passed
+step_of packets (NewInterface interface) = step.Passed
+step_of packets (Packet time place captured) = step.Packet (record { number = packets + 1; time = time; length = captured })
+step_of packets Passed = step.Passed

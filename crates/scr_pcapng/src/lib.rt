@@ -20,18 +20,24 @@
 //! Ethernet frames of at most 262,144 bytes. Names, comments, statistics and other options are passed over.
 #![tactic(auto)]
 
+mod any;
 mod content;
 mod contents;
 mod error;
 mod head;
 mod kind;
 mod laws;
+mod options;
 mod padding;
 mod passing;
 mod progress;
 mod reader;
+mod taking;
+#[cfg(test)]
+mod tests;
 mod units;
 
+pub use any::AnyReader;
 pub use content::{Content, InterfaceInfo};
 pub use error::{AnyError, NgError};
 pub use laws::{one_reading, some_reading};
