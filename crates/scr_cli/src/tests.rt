@@ -47,10 +47,12 @@ fn tells_why_there_are_no_words(rt: HostRuntime) {
     let refused = too_large(rt.alloc())
         .err()
         .expect(&rt, "no memory is so large");
-    let wanted = words_given(rt.alloc(), Err(refused.into()));
-    assert!(rt; matches!(wanted, Err(NoWords::OutOfMemory(_))));
+    let Err(wanted) = words_given(rt.alloc(), Err(refused.into())) else {
+        panic!(rt; "words without memory")
+    };
+    assert!(rt; matches!(wanted, NoWords::OutOfMemory(_)));
     let no_text = words_given(rt.alloc(), Err(io::ErrorKind::InvalidData.into()));
-    assert!(rt; matches!(no_text, Ok(words) if words.is_empty()));
+    assert_eq!(rt; no_text.expect(&rt, "no word").len(), 0);
 }
 
 /// The code, the report and the line of a run over a capture without records.
