@@ -13,7 +13,9 @@ use Rattle.scr_knock.specs.declared.settings.KnockSettings.{KnockSettings}
 use Rattle.scr_words.specs.Limits.{most_flows}
 use Rattle.scr_words.specs.declared.settings.Command.{Command}
 use Rattle.scr_words.specs.declared.settings.ProgramSettings.{ProgramSettings}
-use Rattle.scr_words.specs.declared.settings.ProgramSettings.TheVariants.{Ddos, Heavy, Bucket, Knock, Conn}
+use Rattle.scr_words.specs.declared.settings.ProgramSettings.TheVariants.{One, Chain, Table}
+use Rattle.scr_words.specs.declared.settings.OneSettings.{OneSettings}
+use Rattle.scr_words.specs.declared.settings.OneSettings.TheVariants.{Ddos, Heavy, Bucket, Knock, Conn}
 use Rattle.scr_words.specs.declared.settings.RunSettings.{RunSettings}
 use Rattle.scr_words.specs.declared.settings.Shape.{Shape}
 use Rattle.scr_words.specs.declared.operand.ProgramName.{ProgramName}
@@ -22,7 +24,7 @@ use Rattle.scr_words.specs.declared.operand.Operand.TheVariants as operand
 use Rattle.scr_words.specs.WordParts.{chosen}
 use Rattle.scr_words.specs.WordFaults.{setting_fault}
 use Rattle.scr_words.specs.WordTests.{HaveFaultlessValues}
-use Rattle.scr_words.specs.GivenSettings.{value_for, number_for, history_for, HasPorts, HasProgram, HasShape, AreChosen}
+use Rattle.scr_words.specs.GivenSettings.{value_for, number_for, history_for, HasPorts, HasNumbers, name_of, HasProgram, HasShape, AreChosen}
 use Rattle.scr_words.proofs.GivenValues.{value_for-passes}
 use Rattle.scr_words.proofs.DropListFaults.{drop_list_fault-empty}
 use Rattle.scr_words.proofs.FaultlessValues.{Spells-some, number-inside, history-short}
@@ -91,7 +93,7 @@ module _ (operands : List (List ℕ)) (values : HaveFaultlessValues operands) wh
   ports_are = ArePorts-from _ _ _ (value_for-passes operand.Ports operands values refl)
 
   -- the settings of a program by the values that its operands have
-  abbrev made : ProgramName → ProgramSettings
+  abbrev made : ProgramName → OneSettings
   made program.Ddos = Ddos (record {
     threshold = number_for operand.Threshold operands;
     flows = number_for operand.Flows operands;
@@ -137,93 +139,81 @@ module _ (operands : List (List ℕ)) (values : HaveFaultlessValues operands) wh
     few_flows = flows_inside.1;
   })
 
-  HasProgram-made : (name : ProgramName) → chosen operands ≡ Some name → HasProgram operands (made name)
-  HasProgram-made program.Ddos is = (is, refl, refl)
-  HasProgram-made program.Heavy is = (is, refl, refl)
-  HasProgram-made program.Bucket is = (is, refl, refl, refl)
-  HasProgram-made program.Knock is = (is, rw ports_are.read (refl, refl, refl), refl)
-  HasProgram-made program.Conn is = (is, refl, refl)
+  name_of-made : (name : ProgramName) → name_of (made name) ≡ name
+  name_of-made program.Ddos = refl
+  name_of-made program.Heavy = refl
+  name_of-made program.Bucket = refl
+  name_of-made program.Knock = refl
+  name_of-made program.Conn = refl
 
-  -- no others are chosen
-  record IsMade (settings : ProgramSettings) : Type 0 where
-    name : ProgramName
-    is_chosen : chosen operands ≡ Some name
-    same : settings ≡ made name
+  HasNumbers-made : (name : ProgramName) → HasNumbers operands (made name)
+  HasNumbers-made program.Ddos = (refl, refl)
+  HasNumbers-made program.Heavy = (refl, refl)
+  HasNumbers-made program.Bucket = (refl, refl, refl)
+  HasNumbers-made program.Knock = (rw ports_are.read (refl, refl, refl), refl)
+  HasNumbers-made program.Conn = (refl, refl)
 
-  IsMade-from : (settings : ProgramSettings) → HasProgram operands settings → IsMade settings
-  IsMade-from (Ddos settings) (is, threshold, flows) = record {
-    name = program.Ddos;
-    is_chosen = is;
-    same = λ i. Ddos (record {
-      threshold = threshold i;
-      flows = flows i;
-      threshold_fits = at_most threshold settings.threshold_fits (number-inside operands values operand.Threshold refl refl).1 i;
-      some = at_least flows settings.some flows_inside.0 i;
-      few = at_most flows settings.few flows_inside.1 i;
-    });
-  }
-  IsMade-from (Heavy settings) (is, bytes, flows) = record {
-    name = program.Heavy;
-    is_chosen = is;
-    same = λ i. Heavy (record {
-      bytes = bytes i;
-      flows = flows i;
-      bytes_some = at_least bytes settings.bytes_some (number-inside operands values operand.Bytes refl refl).0 i;
-      bytes_fits = at_most bytes settings.bytes_fits (number-inside operands values operand.Bytes refl refl).1 i;
-      some = at_least flows settings.some flows_inside.0 i;
-      few = at_most flows settings.few flows_inside.1 i;
-    });
-  }
-  IsMade-from (Bucket settings) (is, rate, burst, flows) = record {
-    name = program.Bucket;
-    is_chosen = is;
-    same = λ i. Bucket (record {
-      rate = rate i;
-      burst = burst i;
-      flows = flows i;
-      rate_fits = at_most rate settings.rate_fits (number-inside operands values operand.Rate refl refl).1 i;
-      burst_some = at_least burst settings.burst_some (number-inside operands values operand.Burst refl refl).0 i;
-      burst_fits = at_most burst settings.burst_fits (number-inside operands values operand.Burst refl refl).1 i;
-      some = at_least flows settings.some flows_inside.0 i;
-      few = at_most flows settings.few flows_inside.1 i;
-    });
-  }
-  IsMade-from (Knock settings) (is, ports, flows) =
+  -- no others have these numbers
+  made-same : (settings : OneSettings) → HasNumbers operands settings → settings ≡ made (name_of settings)
+  made-same (Ddos settings) (threshold, flows) =
+      λ i. Ddos (record {
+        threshold = threshold i;
+        flows = flows i;
+        threshold_fits = at_most threshold settings.threshold_fits (number-inside operands values operand.Threshold refl refl).1 i;
+        some = at_least flows settings.some flows_inside.0 i;
+        few = at_most flows settings.few flows_inside.1 i;
+      })
+  made-same (Heavy settings) (bytes, flows) =
+      λ i. Heavy (record {
+        bytes = bytes i;
+        flows = flows i;
+        bytes_some = at_least bytes settings.bytes_some (number-inside operands values operand.Bytes refl refl).0 i;
+        bytes_fits = at_most bytes settings.bytes_fits (number-inside operands values operand.Bytes refl refl).1 i;
+        some = at_least flows settings.some flows_inside.0 i;
+        few = at_most flows settings.few flows_inside.1 i;
+      })
+  made-same (Bucket settings) (rate, burst, flows) =
+      λ i. Bucket (record {
+        rate = rate i;
+        burst = burst i;
+        flows = flows i;
+        rate_fits = at_most rate settings.rate_fits (number-inside operands values operand.Rate refl refl).1 i;
+        burst_some = at_least burst settings.burst_some (number-inside operands values operand.Burst refl refl).0 i;
+        burst_fits = at_most burst settings.burst_fits (number-inside operands values operand.Burst refl refl).1 i;
+        some = at_least flows settings.some flows_inside.0 i;
+        few = at_most flows settings.few flows_inside.1 i;
+      })
+  made-same (Knock settings) (ports, flows) =
       let (first, second, third) = HasPorts-are (value_for operand.Ports operands) settings ports_are ports in
-      record {
-        name = program.Knock;
-        is_chosen = is;
-        same = λ i. Knock (record {
-          first = first i;
-          second = second i;
-          third = third i;
-          flows = flows i;
-          some_first = at_least first settings.some_first ports_are.first_some i;
-          some_second = at_least second settings.some_second ports_are.second_some i;
-          some_third = at_least third settings.some_third ports_are.third_some i;
-          some_flows = at_least flows settings.some_flows flows_inside.0 i;
-          few_flows = at_most flows settings.few_flows flows_inside.1 i;
-        });
-      }
-  IsMade-from (Conn settings) (is, idle, flows) = record {
-    name = program.Conn;
-    is_chosen = is;
-    same = λ i. Conn (record {
-      idle = idle i;
-      flows = flows i;
-      some_time = at_least idle settings.some_time (number-inside operands values operand.Idle refl refl).0 i;
-      few_time = at_most idle settings.few_time (number-inside operands values operand.Idle refl refl).1 i;
-      some_flows = at_least flows settings.some_flows flows_inside.0 i;
-      few_flows = at_most flows settings.few_flows flows_inside.1 i;
-    });
-  }
+      λ i. Knock (record {
+        first = first i;
+        second = second i;
+        third = third i;
+        flows = flows i;
+        some_first = at_least first settings.some_first ports_are.first_some i;
+        some_second = at_least second settings.some_second ports_are.second_some i;
+        some_third = at_least third settings.some_third ports_are.third_some i;
+        some_flows = at_least flows settings.some_flows flows_inside.0 i;
+        few_flows = at_most flows settings.few_flows flows_inside.1 i;
+      })
+  made-same (Conn settings) (idle, flows) =
+      λ i. Conn (record {
+        idle = idle i;
+        flows = flows i;
+        some_time = at_least idle settings.some_time (number-inside operands values operand.Idle refl refl).0 i;
+        few_time = at_most idle settings.few_time (number-inside operands values operand.Idle refl refl).1 i;
+        some_flows = at_least flows settings.some_flows flows_inside.0 i;
+        few_flows = at_most flows settings.few_flows flows_inside.1 i;
+      })
 
   program-same : (a b : ProgramSettings) → HasProgram operands a → HasProgram operands b → a ≡ b
-  program-same a b has_a has_b =
-      let of_a = IsMade-from a has_a in
-      let of_b = IsMade-from b has_b in
-      let name : of_a.name ≡ of_b.name = cc (of_a.is_chosen, of_b.is_chosen) in
-      of_a.same ∙ ap made name ∙ sym of_b.same
+  program-same (One a) (One b) has_a has_b =
+      let name : name_of a ≡ name_of b = cc (has_a.0, has_b.0) in
+      ap One (made-same a has_a.1 ∙ ap made name ∙ sym (made-same b has_b.1))
+  program-same (One a) (Chain first second) has_a has_b = absurd has_b
+  program-same (One a) (Table b) has_a has_b = absurd has_b
+  program-same (Chain first second) b has_a has_b = absurd has_a
+  program-same (Table a) b has_a has_b = absurd has_a
 
   shape_some : (shape : Shape) × HasShape operands shape
   shape_some =
@@ -251,7 +241,7 @@ module _ (operands : List (List ℕ)) (values : HaveFaultlessValues operands) wh
       let hosts = number-inside operands values operand.Hosts refl refl in
       let settings : RunSettings = record {
         command = command;
-        program = made name;
+        program = One (made name);
         shape = shape;
         start = number_for operand.Start operands;
         frames = number_for operand.Frames operands;
@@ -260,7 +250,7 @@ module _ (operands : List (List ℕ)) (values : HaveFaultlessValues operands) wh
         some_hosts = hosts.0;
         few_hosts = hosts.1;
       } in
-      (settings, refl, record { program = HasProgram-made name is; shape = has_shape; start = refl; frames = refl; hosts = refl })
+      (settings, refl, record { program = (is ∙ ap Some (sym (name_of-made name)), HasNumbers-made name); shape = has_shape; start = refl; frames = refl; hosts = refl })
 
 -- two shapes with the same numbers are the same
 Shape-same : (a b : Shape) → a.cores ≡ b.cores → a.history ≡ b.history → a.drops ≡ b.drops → a.ring ≡ b.ring → a.threads ≡ b.threads → a ≡ b

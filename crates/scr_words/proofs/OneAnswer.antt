@@ -6,7 +6,7 @@ use Rattle.scr_words.specs.declared.word_fault.WordCause.{WordCause}
 use Rattle.scr_words.specs.declared.word_fault.WordFault.{WordFault}
 use Rattle.scr_words.specs.declared.settings.Command.{Command}
 use Rattle.scr_words.specs.declared.settings.ProgramSettings.{ProgramSettings}
-use Rattle.scr_words.specs.declared.settings.ProgramSettings.TheVariants.{Ddos, Heavy, Bucket, Knock, Conn}
+use Rattle.scr_words.specs.declared.settings.ProgramSettings.TheVariants.{One, Chain, Table}
 use Rattle.scr_words.specs.declared.settings.RunSettings.{RunSettings}
 use Rattle.scr_words.specs.declared.operand.ProgramName.{ProgramName}
 use Rattle.scr_words.specs.declared.operand.Operand.TheVariants as operand
@@ -78,11 +78,9 @@ chosen-given None program is none = cc
 chosen-given (Some name) program is none = cc
 
 program-given : (operands : List (List ℕ)) (settings : ProgramSettings) → HasProgram operands settings → given (table operand.Program).name operands ≡ None → ⊥
-program-given operands (Ddos settings) has none = chosen-given _ _ has.0 none
-program-given operands (Heavy settings) has none = chosen-given _ _ has.0 none
-program-given operands (Bucket settings) has none = chosen-given _ _ has.0 none
-program-given operands (Knock settings) has none = chosen-given _ _ has.0 none
-program-given operands (Conn settings) has none = chosen-given _ _ has.0 none
+program-given operands (One settings) has none = chosen-given _ _ has.0 none
+program-given operands (Chain first second) has none = has
+program-given operands (Table settings) has none = has
 
 not_refused : (command : Command) (operands : List (List ℕ)) (settings : ProgramSettings) (fault : WordFault) → AreFaultless command operands
     → HasProgram operands settings → IsFirstFault command operands fault ⊎ IsMissing command operands fault → ⊥

@@ -6,10 +6,13 @@ use Rattle.scr_base.specs.Numbers.{number_of}
 use Rattle.scr_plan.specs.Spelling.{Spells}
 use Rattle.scr_knock.specs.Ports.{ports_in}
 use Rattle.scr_words.specs.declared.settings.ProgramSettings.{ProgramSettings}
-use Rattle.scr_words.specs.declared.settings.ProgramSettings.TheVariants.{Ddos, Heavy, Bucket, Knock, Conn}
+use Rattle.scr_words.specs.declared.settings.ProgramSettings.TheVariants.{One, Chain, Table}
+use Rattle.scr_words.specs.declared.settings.OneSettings.{OneSettings}
+use Rattle.scr_words.specs.declared.settings.OneSettings.TheVariants.{Ddos, Heavy, Bucket, Knock, Conn}
 use Rattle.scr_words.specs.declared.settings.RunSettings.{RunSettings}
 use Rattle.scr_words.specs.declared.settings.Shape.{Shape}
 use Rattle.scr_knock.specs.declared.settings.KnockSettings.{KnockSettings}
+use Rattle.scr_words.specs.declared.operand.ProgramName.{ProgramName}
 use Rattle.scr_words.specs.declared.operand.ProgramName.TheVariants as program
 use Rattle.scr_words.specs.declared.operand.Operand.{Operand}
 use Rattle.scr_words.specs.declared.operand.Operand.TheVariants as operand
@@ -35,24 +38,33 @@ HasPorts text settings = MatchResult (ports_in text)
     (λ ports. (settings.first ≡ ports.0) × (settings.second ≡ ports.1) × (settings.third ≡ ports.2))
     (λ refusal. ⊥)
 
--- the chosen program, with its numbers
-abbrev pub HasProgram : List (List ℕ) → ProgramSettings → Type 0
-HasProgram operands (Ddos settings) = (chosen operands ≡ Some program.Ddos)
-    × (settings.threshold ≡ number_for operand.Threshold operands)
-    × (settings.flows ≡ number_for operand.Flows operands)
-HasProgram operands (Heavy settings) = (chosen operands ≡ Some program.Heavy)
-    × (settings.bytes ≡ number_for operand.Bytes operands)
-    × (settings.flows ≡ number_for operand.Flows operands)
-HasProgram operands (Bucket settings) = (chosen operands ≡ Some program.Bucket)
-    × (settings.rate ≡ number_for operand.Rate operands)
+-- which program settings are for
+abbrev pub name_of : OneSettings → ProgramName
+name_of (Ddos settings) = program.Ddos
+name_of (Heavy settings) = program.Heavy
+name_of (Bucket settings) = program.Bucket
+name_of (Knock settings) = program.Knock
+name_of (Conn settings) = program.Conn
+
+-- its numbers
+abbrev pub HasNumbers : List (List ℕ) → OneSettings → Type 0
+HasNumbers operands (Ddos settings) =
+    (settings.threshold ≡ number_for operand.Threshold operands) × (settings.flows ≡ number_for operand.Flows operands)
+HasNumbers operands (Heavy settings) =
+    (settings.bytes ≡ number_for operand.Bytes operands) × (settings.flows ≡ number_for operand.Flows operands)
+HasNumbers operands (Bucket settings) = (settings.rate ≡ number_for operand.Rate operands)
     × (settings.burst ≡ number_for operand.Burst operands)
     × (settings.flows ≡ number_for operand.Flows operands)
-HasProgram operands (Knock settings) = (chosen operands ≡ Some program.Knock)
-    × HasPorts (value_for operand.Ports operands) settings
-    × (settings.flows ≡ number_for operand.Flows operands)
-HasProgram operands (Conn settings) = (chosen operands ≡ Some program.Conn)
-    × (settings.idle ≡ number_for operand.Idle operands)
-    × (settings.flows ≡ number_for operand.Flows operands)
+HasNumbers operands (Knock settings) =
+    HasPorts (value_for operand.Ports operands) settings × (settings.flows ≡ number_for operand.Flows operands)
+HasNumbers operands (Conn settings) =
+    (settings.idle ≡ number_for operand.Idle operands) × (settings.flows ≡ number_for operand.Flows operands)
+
+-- the chosen program, with its numbers
+abbrev pub HasProgram : List (List ℕ) → ProgramSettings → Type 0
+HasProgram operands (One settings) = (chosen operands ≡ Some (name_of settings)) × HasNumbers operands settings
+HasProgram operands (Chain first second) = ⊥
+HasProgram operands (Table settings) = ⊥
 
 -- how frames go to cores
 pub record HasShape (operands : List (List ℕ)) (shape : Shape) : Type 0 where

@@ -5,11 +5,11 @@ ghost use Rattle.scr_words.specs.Operands.{table, is_numeric, IsWithin};
 ghost use Rattle.scr_words.specs.WordParts.{chosen};
 ghost use Rattle.scr_words.specs.WordFaults.{value_fault};
 ghost use Rattle.scr_words.specs.WordTests.{HaveFaultlessValues};
-ghost use Rattle.scr_words.specs.GivenSettings.{value_for, number_for, history_for, HasPorts, HasProgram, HasShape, AreChosen};
+ghost use Rattle.scr_words.specs.GivenSettings.{value_for, number_for, history_for, HasPorts, HasNumbers, name_of, HasProgram, HasShape, AreChosen};
 
 use crate::operand::{Form, Operand, ProgramName};
 use crate::parts::given;
-use crate::settings::{Command, ProgramSettings, RunSettings, Shape};
+use crate::settings::{Command, OneSettings, ProgramSettings, RunSettings, Shape};
 use scr_base::{OutOfMemory, Word, read_number};
 use scr_bucket::BucketSettings;
 use scr_conn::ConnSettings;
@@ -33,7 +33,7 @@ pub(crate) fn settings(
 {
     Ok(RunSettings {
         command,
-        program: program_settings(program, operands),
+        program: ProgramSettings::One(one_settings(program, operands)),
         shape: shape(alloc, operands)?,
         start: number(Operand::Start, operands),
         frames: number(Operand::Frames, operands) as u32,
@@ -41,28 +41,28 @@ pub(crate) fn settings(
     })
 }
 
-fn program_settings(program: ProgramName, operands: &[Word]) -> ProgramSettings
+fn one_settings(program: ProgramName, operands: &[Word]) -> OneSettings
     requires values { HaveFaultlessValues operands.now }
-    requires program { chosen operands.now ≡ Some program }
-    ensures { HasProgram operands.now result }
+    ensures name { name_of result ≡ program }
+    ensures numbers { HasNumbers operands.now result }
 {
     let flows = number(Operand::Flows, operands) as u32;
     match program {
-        ProgramName::Ddos => ProgramSettings::Ddos(DdosSettings {
+        ProgramName::Ddos => OneSettings::Ddos(DdosSettings {
             threshold: number(Operand::Threshold, operands),
             flows,
         }),
-        ProgramName::Heavy => ProgramSettings::Heavy(HeavySettings {
+        ProgramName::Heavy => OneSettings::Heavy(HeavySettings {
             bytes: number(Operand::Bytes, operands),
             flows,
         }),
-        ProgramName::Bucket => ProgramSettings::Bucket(BucketSettings {
+        ProgramName::Bucket => OneSettings::Bucket(BucketSettings {
             rate: number(Operand::Rate, operands),
             burst: number(Operand::Burst, operands),
             flows,
         }),
-        ProgramName::Knock => ProgramSettings::Knock(knock_settings(flows, operands)),
-        ProgramName::Conn => ProgramSettings::Conn(ConnSettings {
+        ProgramName::Knock => OneSettings::Knock(knock_settings(flows, operands)),
+        ProgramName::Conn => OneSettings::Conn(ConnSettings {
             idle: number(Operand::Idle, operands),
             flows,
         }),
