@@ -1,15 +1,22 @@
 -- Words without a fault choose some settings, and only these.
-use Rattle.std.proofs.Common.{◌≡◌, ℕ, ◌≤◌, List, Bool, true, false, cond, not, ◌&&◌, leb, codes, bytes_eq, Some, None, Ok, Err, refl, sym, ap, ◌∙◌, arith}
+use Rattle.std.proofs.Common.{◌≡◌, ◌⊎◌, inl, inr, ℕ, ◌≤◌, List, Bool, true, false, cond, not, ◌&&◌, leb, codes, bytes_eq, Option, Some, None, Ok, Err, refl, sym, ap, ◌∙◌, subst, arith}
 use Rattle.std.specs.List.{before_first, after_first}
 use Rattle.std.proofs.lemmas.Bool.{and_parts}
 use Rattle.std.proofs.lemmas.Bool.Decides.{nat_tests}
 use Rattle.std.proofs.Math.Bridge.{le_prop}
 use Rattle.std.proofs.Math.Path.{PathP, to_path_p}
+use mathlib.Core.Bool.{Bool-set}
 use Rattle.scr_base.specs.Numbers.{is_number, number_of}
 use Rattle.scr_plan.proofs.OneReading.{Spells-same}
 use Rattle.scr_program.specs.declared.setting.SettingError.TheVariants.{Value, Range}
 use Rattle.scr_knock.specs.Ports.{is_comma, is_port, ports_of}
 use Rattle.scr_knock.specs.declared.settings.KnockSettings.{KnockSettings}
+use Rattle.scr_tables.specs.Rules.{IsTable}
+use Rattle.scr_tables.specs.Spelling as tables
+use Rattle.scr_tables.specs.declared.rule.Rule.{Rule}
+use Rattle.scr_tables.specs.declared.settings.TableSettings.{TableSettings}
+use Rattle.scr_tables.proofs.OneReading as tables_are
+use Rattle.scr_tables.proofs.Spelled.{IsTable-from_rules}
 use Rattle.scr_words.specs.Limits.{most_flows}
 use Rattle.scr_words.specs.declared.settings.Command.{Command}
 use Rattle.scr_words.specs.declared.settings.ProgramSettings.{ProgramSettings}
@@ -18,15 +25,19 @@ use Rattle.scr_words.specs.declared.settings.OneSettings.{OneSettings}
 use Rattle.scr_words.specs.declared.settings.OneSettings.TheVariants.{Ddos, Heavy, Bucket, Knock, Conn}
 use Rattle.scr_words.specs.declared.settings.RunSettings.{RunSettings}
 use Rattle.scr_words.specs.declared.settings.Shape.{Shape}
-use Rattle.scr_words.specs.declared.operand.ProgramName.{ProgramName}
-use Rattle.scr_words.specs.declared.operand.ProgramName.TheVariants as program
+use Rattle.scr_words.specs.declared.program_name.OneName.{OneName}
+use Rattle.scr_words.specs.declared.program_name.OneName.TheVariants as name
+use Rattle.scr_words.specs.declared.program_name.ProgramName.{ProgramName}
+use Rattle.scr_words.specs.declared.program_name.ProgramName.TheVariants as program
 use Rattle.scr_words.specs.declared.operand.Operand.TheVariants as operand
-use Rattle.scr_words.specs.WordParts.{chosen}
-use Rattle.scr_words.specs.WordFaults.{setting_fault}
+use Rattle.scr_words.specs.Operands.{table}
+use Rattle.scr_words.specs.WordParts.{given, chosen}
+use Rattle.scr_words.specs.WordFaults.{setting_fault, lacks_operand}
 use Rattle.scr_words.specs.WordTests.{HaveFaultlessValues}
 use Rattle.scr_words.specs.GivenSettings.{value_for, number_for, history_for, HasPorts, HasNumbers, name_of, HasProgram, HasShape, AreChosen}
 use Rattle.scr_words.proofs.GivenValues.{value_for-passes}
-use Rattle.scr_words.proofs.DropListFaults.{drop_list_fault-empty}
+use Rattle.scr_words.proofs.FaultlessWords.{lacks-program, lacks-table}
+use Rattle.scr_words.proofs.TextFaults.{drop_list_fault-empty, table-some}
 use Rattle.scr_words.proofs.FaultlessValues.{Spells-some, number-inside, history-short}
 
 -- ports without a fault
@@ -85,6 +96,12 @@ at_least {bound} e p q = to_path_p (λ i. bound ≤ e i) (le_prop _ q)
 at_most : {bound m n : ℕ} (e : m ≡ n) (p : m ≤ bound) (q : n ≤ bound) → PathP (λ i. e i ≤ bound) p q
 at_most {bound} e p q = to_path_p (λ i. e i ≤ bound) (le_prop _ q)
 
+IsTable-prop : (rules : List Rule) → IsProp (IsTable rules)
+IsTable-prop rules = hlevel (le_prop, Bool-set)
+
+is_table : {a b : List Rule} (e : a ≡ b) (p : IsTable a) (q : IsTable b) → PathP (λ i. IsTable (e i)) p q
+is_table {b = b} e p q = to_path_p (λ i. IsTable (e i)) (IsTable-prop b _ q)
+
 module _ (operands : List (List ℕ)) (values : HaveFaultlessValues operands) where
   flows_inside : (1 ≤ number_for operand.Flows operands) × (number_for operand.Flows operands ≤ most_flows)
   flows_inside = number-inside operands values operand.Flows refl refl
@@ -93,15 +110,15 @@ module _ (operands : List (List ℕ)) (values : HaveFaultlessValues operands) wh
   ports_are = ArePorts-from _ _ _ (value_for-passes operand.Ports operands values refl)
 
   -- the settings of a program by the values that its operands have
-  abbrev made : ProgramName → OneSettings
-  made program.Ddos = Ddos (record {
+  abbrev made : OneName → OneSettings
+  made name.Ddos = Ddos (record {
     threshold = number_for operand.Threshold operands;
     flows = number_for operand.Flows operands;
     threshold_fits = (number-inside operands values operand.Threshold refl refl).1;
     some = flows_inside.0;
     few = flows_inside.1;
   })
-  made program.Heavy = Heavy (record {
+  made name.Heavy = Heavy (record {
     bytes = number_for operand.Bytes operands;
     flows = number_for operand.Flows operands;
     bytes_some = (number-inside operands values operand.Bytes refl refl).0;
@@ -109,7 +126,7 @@ module _ (operands : List (List ℕ)) (values : HaveFaultlessValues operands) wh
     some = flows_inside.0;
     few = flows_inside.1;
   })
-  made program.Bucket = Bucket (record {
+  made name.Bucket = Bucket (record {
     rate = number_for operand.Rate operands;
     burst = number_for operand.Burst operands;
     flows = number_for operand.Flows operands;
@@ -119,7 +136,7 @@ module _ (operands : List (List ℕ)) (values : HaveFaultlessValues operands) wh
     some = flows_inside.0;
     few = flows_inside.1;
   })
-  made program.Knock = Knock (record {
+  made name.Knock = Knock (record {
     first = number_of (first_text (value_for operand.Ports operands));
     second = number_of (second_text (value_for operand.Ports operands));
     third = number_of (third_text (value_for operand.Ports operands));
@@ -130,7 +147,7 @@ module _ (operands : List (List ℕ)) (values : HaveFaultlessValues operands) wh
     some_flows = flows_inside.0;
     few_flows = flows_inside.1;
   })
-  made program.Conn = Conn (record {
+  made name.Conn = Conn (record {
     idle = number_for operand.Idle operands;
     flows = number_for operand.Flows operands;
     some_time = (number-inside operands values operand.Idle refl refl).0;
@@ -139,19 +156,19 @@ module _ (operands : List (List ℕ)) (values : HaveFaultlessValues operands) wh
     few_flows = flows_inside.1;
   })
 
-  name_of-made : (name : ProgramName) → name_of (made name) ≡ name
-  name_of-made program.Ddos = refl
-  name_of-made program.Heavy = refl
-  name_of-made program.Bucket = refl
-  name_of-made program.Knock = refl
-  name_of-made program.Conn = refl
+  name_of-made : (one : OneName) → name_of (made one) ≡ one
+  name_of-made name.Ddos = refl
+  name_of-made name.Heavy = refl
+  name_of-made name.Bucket = refl
+  name_of-made name.Knock = refl
+  name_of-made name.Conn = refl
 
-  HasNumbers-made : (name : ProgramName) → HasNumbers operands (made name)
-  HasNumbers-made program.Ddos = (refl, refl)
-  HasNumbers-made program.Heavy = (refl, refl)
-  HasNumbers-made program.Bucket = (refl, refl, refl)
-  HasNumbers-made program.Knock = (rw ports_are.read (refl, refl, refl), refl)
-  HasNumbers-made program.Conn = (refl, refl)
+  HasNumbers-made : (one : OneName) → HasNumbers operands (made one)
+  HasNumbers-made name.Ddos = (refl, refl)
+  HasNumbers-made name.Heavy = (refl, refl)
+  HasNumbers-made name.Bucket = (refl, refl, refl)
+  HasNumbers-made name.Knock = (rw ports_are.read (refl, refl, refl), refl)
+  HasNumbers-made name.Conn = (refl, refl)
 
   -- no others have these numbers
   made-same : (settings : OneSettings) → HasNumbers operands settings → settings ≡ made (name_of settings)
@@ -206,14 +223,30 @@ module _ (operands : List (List ℕ)) (values : HaveFaultlessValues operands) wh
         few_flows = at_most flows settings.few_flows flows_inside.1 i;
       })
 
+  table-same : (a b : TableSettings) → tables.Spells (value_for operand.Table operands) a.table → tables.Spells (value_for operand.Table operands) b.table
+      → a.flows ≡ number_for operand.Flows operands → b.flows ≡ number_for operand.Flows operands → a ≡ b
+  table-same a b spells_a spells_b flows_a flows_b =
+      let table = tables_are.Spells-same (value_for operand.Table operands) a.table b.table spells_a spells_b in
+      let flows = flows_a ∙ sym flows_b in
+      λ i. record {
+        table = table i;
+        flows = flows i;
+        valid = is_table table a.valid b.valid i;
+        some = at_least flows a.some b.some i;
+        few = at_most flows a.few b.few i;
+      }
+
+  one-same : (a b : OneSettings) → HasNumbers operands a → HasNumbers operands b → name_of a ≡ name_of b → a ≡ b
+  one-same a b has_a has_b same = made-same a has_a ∙ ap made same ∙ sym (made-same b has_b)
+
   program-same : (a b : ProgramSettings) → HasProgram operands a → HasProgram operands b → a ≡ b
-  program-same (One a) (One b) has_a has_b =
-      let name : name_of a ≡ name_of b = cc (has_a.0, has_b.0) in
-      ap One (made-same a has_a.1 ∙ ap made name ∙ sym (made-same b has_b.1))
-  program-same (One a) (Chain first second) has_a has_b = absurd has_b
-  program-same (One a) (Table b) has_a has_b = absurd has_b
+  program-same (One a) (One b) has_a has_b = ap One (one-same a b has_a.1 has_b.1 (cc (has_a.0, has_b.0)))
+  program-same (One a) (Table b) has_a has_b = absurd (cc (has_a.0, has_b.0))
+  program-same (Table a) (One b) has_a has_b = absurd (cc (has_a.0, has_b.0))
+  program-same (Table a) (Table b) has_a has_b = ap Table (table-same a b has_a.1 has_b.1 has_a.2 has_b.2)
   program-same (Chain first second) b has_a has_b = absurd has_a
-  program-same (Table a) b has_a has_b = absurd has_a
+  program-same (One a) (Chain first second) has_a has_b = absurd has_b
+  program-same (Table a) (Chain first second) has_a has_b = absurd has_b
 
   shape_some : (shape : Shape) × HasShape operands shape
   shape_some =
@@ -234,14 +267,38 @@ module _ (operands : List (List ℕ)) (values : HaveFaultlessValues operands) wh
       } in
       (shape, record { cores = refl; history = refl; drops = spells; ring = refl; threads = refl })
 
-  pub settings_some : (command : Command) (name : ProgramName) → chosen operands ≡ Some name
+  -- the words choose some program, or a required operand is absent
+  abbrev SomeProgram : Type 0
+  SomeProgram = ((settings : ProgramSettings) × HasProgram operands settings) ⊎ (lacks_operand operands ≡ true)
+
+  table_by : chosen operands ≡ Some program.Table → (found : Option (List ℕ)) → given (table operand.Table).name operands ≡ found → SomeProgram
+  table_by is None absent = inr (lacks-table operands is absent)
+  table_by is (Some text) found =
+      let (rules, spells) = table-some text (values operand.Table text found) in
+      let value : value_for operand.Table operands ≡ text = rw found refl in
+      let settings : TableSettings = record {
+        table = rules;
+        flows = number_for operand.Flows operands;
+        valid = IsTable-from_rules text rules spells.spelled spells.complete;
+        some = flows_inside.0;
+        few = flows_inside.1;
+      } in
+      inl (Table settings, (is, subst (λ (t : List ℕ). tables.Spells t rules) (sym value) spells, refl))
+
+  program_by : (found : Option ProgramName) → chosen operands ≡ found → SomeProgram
+  program_by None none = inr (lacks-program operands values none)
+  program_by (Some (program.One one)) is =
+      inl (One (made one), (is ∙ ap (λ (n : OneName). Some (program.One n)) (sym (name_of-made one)), HasNumbers-made one))
+  program_by (Some program.Table) is = table_by is (given (table operand.Table).name operands) refl
+
+  settings_by : (command : Command) (program : ProgramSettings) → HasProgram operands program
       → (settings : RunSettings) × (settings.command ≡ command) × AreChosen operands settings
-  settings_some command name is =
+  settings_by command program has_program =
       let (shape, has_shape) = shape_some in
       let hosts = number-inside operands values operand.Hosts refl refl in
       let settings : RunSettings = record {
         command = command;
-        program = One (made name);
+        program = program;
         shape = shape;
         start = number_for operand.Start operands;
         frames = number_for operand.Frames operands;
@@ -250,7 +307,15 @@ module _ (operands : List (List ℕ)) (values : HaveFaultlessValues operands) wh
         some_hosts = hosts.0;
         few_hosts = hosts.1;
       } in
-      (settings, refl, record { program = (is ∙ ap Some (sym (name_of-made name)), HasNumbers-made name); shape = has_shape; start = refl; frames = refl; hosts = refl })
+      (settings, refl, record { program = has_program; shape = has_shape; start = refl; frames = refl; hosts = refl })
+
+  pub settings_some : (command : Command)
+      → ((settings : RunSettings) × (settings.command ≡ command) × AreChosen operands settings) ⊎ (lacks_operand operands ≡ true)
+  settings_some command =
+      elim (program_by (chosen operands) refl) [
+        | inl (program, has) ↦ inl (settings_by command program has)
+        | inr lacks ↦ inr lacks
+      ]
 
 -- two shapes with the same numbers are the same
 Shape-same : (a b : Shape) → a.cores ≡ b.cores → a.history ≡ b.history → a.drops ≡ b.drops → a.ring ≡ b.ring → a.threads ≡ b.threads → a ≡ b

@@ -5,6 +5,7 @@ use Rattle.std.specs.Str.{bytes_eq}
 use Rattle.scr_base.specs.Numbers.{number_of}
 use Rattle.scr_plan.specs.Spelling.{Spells}
 use Rattle.scr_knock.specs.Ports.{ports_in}
+use Rattle.scr_tables.specs.Spelling as tables
 use Rattle.scr_words.specs.declared.settings.ProgramSettings.{ProgramSettings}
 use Rattle.scr_words.specs.declared.settings.ProgramSettings.TheVariants.{One, Chain, Table}
 use Rattle.scr_words.specs.declared.settings.OneSettings.{OneSettings}
@@ -12,8 +13,9 @@ use Rattle.scr_words.specs.declared.settings.OneSettings.TheVariants.{Ddos, Heav
 use Rattle.scr_words.specs.declared.settings.RunSettings.{RunSettings}
 use Rattle.scr_words.specs.declared.settings.Shape.{Shape}
 use Rattle.scr_knock.specs.declared.settings.KnockSettings.{KnockSettings}
-use Rattle.scr_words.specs.declared.operand.ProgramName.{ProgramName}
-use Rattle.scr_words.specs.declared.operand.ProgramName.TheVariants as program
+use Rattle.scr_words.specs.declared.program_name.OneName.{OneName}
+use Rattle.scr_words.specs.declared.program_name.OneName.TheVariants as name
+use Rattle.scr_words.specs.declared.program_name.ProgramName.TheVariants as program
 use Rattle.scr_words.specs.declared.operand.Operand.{Operand}
 use Rattle.scr_words.specs.declared.operand.Operand.TheVariants as operand
 use Rattle.scr_words.specs.Operands.{table, command_named}
@@ -39,12 +41,12 @@ HasPorts text settings = MatchResult (ports_in text)
     (λ refusal. ⊥)
 
 -- which program settings are for
-abbrev pub name_of : OneSettings → ProgramName
-name_of (Ddos settings) = program.Ddos
-name_of (Heavy settings) = program.Heavy
-name_of (Bucket settings) = program.Bucket
-name_of (Knock settings) = program.Knock
-name_of (Conn settings) = program.Conn
+abbrev pub name_of : OneSettings → OneName
+name_of (Ddos settings) = name.Ddos
+name_of (Heavy settings) = name.Heavy
+name_of (Bucket settings) = name.Bucket
+name_of (Knock settings) = name.Knock
+name_of (Conn settings) = name.Conn
 
 -- its numbers
 abbrev pub HasNumbers : List (List ℕ) → OneSettings → Type 0
@@ -60,11 +62,13 @@ HasNumbers operands (Knock settings) =
 HasNumbers operands (Conn settings) =
     (settings.idle ≡ number_for operand.Idle operands) × (settings.flows ≡ number_for operand.Flows operands)
 
--- the chosen program, with its numbers
+-- the chosen program, with its numbers or its rules
 abbrev pub HasProgram : List (List ℕ) → ProgramSettings → Type 0
-HasProgram operands (One settings) = (chosen operands ≡ Some (name_of settings)) × HasNumbers operands settings
+HasProgram operands (One settings) = (chosen operands ≡ Some (program.One (name_of settings))) × HasNumbers operands settings
 HasProgram operands (Chain first second) = ⊥
-HasProgram operands (Table settings) = ⊥
+HasProgram operands (Table settings) = (chosen operands ≡ Some program.Table)
+    × tables.Spells (value_for operand.Table operands) settings.table
+    × (settings.flows ≡ number_for operand.Flows operands)
 
 -- how frames go to cores
 pub record HasShape (operands : List (List ℕ)) (shape : Shape) : Type 0 where

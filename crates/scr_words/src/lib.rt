@@ -22,6 +22,7 @@ mod faults;
 mod laws;
 mod operand;
 mod parts;
+mod program_name;
 mod reading;
 mod settings;
 #[cfg(test)]
