@@ -34,6 +34,7 @@ mod laws;
 mod names;
 mod plain;
 mod status;
+mod task;
 #[cfg(test)]
 mod tests;
 mod top;
@@ -44,8 +45,8 @@ pub use laws::plain_without_drops;
 pub use names::names_of;
 pub use plain::plain_run;
 pub use scr_words::{
-    Command, ProgramSettings, RunSettings, Shape, WordCause, WordFault, WordsError, one_answer,
-    put_word_line, read_words, some_answer,
+    Command, OneSettings, ProgramSettings, RunSettings, Shape, WordCause, WordFault, WordsError,
+    one_answer, put_word_line, read_words, some_answer,
 };
 pub use status::Status;
 pub use top::scr_main;

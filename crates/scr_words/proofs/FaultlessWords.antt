@@ -1,21 +1,22 @@
 -- What follows where no operand has a fault.
-use Rattle.std.proofs.Common.{◌≡◌, ◌⊎◌, inl, inr, ℕ, suc, ◌+◌, ◌<◌, List, [], ◌∷◌, length, get_or, Bool, true, false, cond, not, Option, Some, None, refl, ap, ◌∙◌, subst, arith}
+use Rattle.std.proofs.Common.{◌≡◌, ◌⊎◌, inl, inr, ℕ, suc, ◌<◌, List, [], ◌∷◌, length, get_or, Bool, true, false, cond, not, ◌||◌, Option, Some, None, refl, ap, ◌∙◌, subst, arith}
 use Rattle.std.specs.List.{find, list_any}
 use Rattle.std.specs.Prelude.{option_map, option_and_then}
 use Rattle.std.specs.Str.{bytes_eq}
 use Rattle.std.proofs.lemmas.Bool.{and_parts}
 use Rattle.std.proofs.lemmas.Slice.Eq.{bytes_eq-Decides}
 use Rattle.scr_words.specs.declared.word_fault.WordCause.{WordCause}
-use Rattle.scr_words.specs.declared.word_fault.WordCause.TheVariants.{NotHere, Twice, Program, Missing}
+use Rattle.scr_words.specs.declared.word_fault.WordCause.TheVariants.{NotHere, Twice, Program}
 use Rattle.scr_words.specs.declared.word_fault.WordFault.{WordFault}
 use Rattle.scr_words.specs.declared.settings.Command.{Command}
-use Rattle.scr_words.specs.declared.operand.ProgramName.{ProgramName}
+use Rattle.scr_words.specs.declared.program_name.ProgramName.{ProgramName}
+use Rattle.scr_words.specs.declared.program_name.ProgramName.TheVariants.{Table}
 use Rattle.scr_words.specs.declared.operand.Operand.{Operand}
 use Rattle.scr_words.specs.declared.operand.Operand.TheVariants as operand
 use Rattle.scr_words.specs.declared.operand.Form.TheVariants.{OneProgram}
 use Rattle.scr_words.specs.Operands.{table, operand_named, command_named, program_named, is_taken}
-use Rattle.scr_words.specs.WordParts.{has_equals, name_in, value_in, is_named, given, chosen}
-use Rattle.scr_words.specs.WordFaults.{operand_fault, value_fault, AreFaultless, IsMissing, AreRefused}
+use Rattle.scr_words.specs.WordParts.{has_equals, name_in, value_in, is_named, is_absent, given, chosen}
+use Rattle.scr_words.specs.WordFaults.{operand_fault, value_fault, lacks_operand, AreFaultless, IsMissing, AreRefused}
 use Rattle.scr_words.specs.WordTests.{HaveFaultlessValues}
 
 -- a word with a name and a value
@@ -61,6 +62,7 @@ operand_named-table operand.Rate = refl
 operand_named-table operand.Burst = refl
 operand_named-table operand.Ports = refl
 operand_named-table operand.Idle = refl
+operand_named-table operand.Table = refl
 
 none-past : (refused : Bool) (cause : WordCause) (rest : Option WordCause) → cond refused (Some cause) rest ≡ None → rest ≡ None
 none-past true cause rest same = absurd cc
@@ -88,7 +90,7 @@ HaveFaultlessValues-from command operands faultless = λ operand value found.
     subst (λ (v : List ℕ). value_fault (table operand).form v ≡ None) at.value_is
     (value_fault-none command (chosen operands) _ word operand named.0 known (faultless at.place at.within))
 
--- where each given program is one of the five, and none is chosen, none is given
+-- where each given program has a name that is known, and none is chosen, none is given
 given-none : (found : Option (List ℕ)) → ((value : List ℕ) → found ≡ Some value → value_fault OneProgram value ≡ None)
     → option_and_then program_named found ≡ None → found ≡ None
 given-none None passes none = refl
@@ -97,14 +99,18 @@ given-none (Some value) passes none =
     let passed : value_fault OneProgram value ≡ None = passes value refl in
     absurd cc
 
-pub IsMissing-from : (command : Command) (operands : List (List ℕ)) (fault : WordFault) → AreFaultless command operands → chosen operands ≡ None
-    → fault.cause ≡ Missing → fault.word ≡ length operands + 2 → IsMissing command operands fault
-IsMissing-from command operands fault faultless none cause number = record {
-  faultless = faultless;
-  none = given-none (given (table operand.Program).name operands) (HaveFaultlessValues-from command operands faultless operand.Program) none;
-  cause = cause;
-  number = number;
-}
+pub lacks-program : (operands : List (List ℕ)) → HaveFaultlessValues operands → chosen operands ≡ None → lacks_operand operands ≡ true
+lacks-program operands values none =
+    let absent : given (table operand.Program).name operands ≡ None =
+    given-none (given (table operand.Program).name operands) (values operand.Program) none in
+    rw (none, absent) refl
+
+pub lacks-table : (operands : List (List ℕ)) → chosen operands ≡ Some Table → given (table operand.Table).name operands ≡ None → lacks_operand operands ≡ true
+lacks-table operands is absent = rw (is, absent) (or-right (is_absent operands operand.Program))
+  where
+    or-right : (a : Bool) → (a || true) ≡ true
+    or-right true = refl
+    or-right false = refl
 
 pub AreRefused-missing : (first : List ℕ) (operands : List (List ℕ)) (command : Command) (fault : WordFault) → command_named first ≡ Some command
     → IsMissing command operands fault → AreRefused (first ∷ operands) fault

@@ -4,7 +4,7 @@ use Rattle.std.proofs.lemmas.List.{get_or_default}
 use Rattle.std.specs.List.{list_any}
 use Rattle.scr_words.specs.declared.word_fault.WordCause.TheVariants.{NoEquals, UnknownName, NotHere, Twice}
 use Rattle.scr_words.specs.declared.settings.Command.{Command}
-use Rattle.scr_words.specs.declared.operand.ProgramName.{ProgramName}
+use Rattle.scr_words.specs.declared.program_name.ProgramName.{ProgramName}
 use Rattle.scr_words.specs.declared.operand.Operand.{Operand}
 use Rattle.scr_words.specs.Operands.{table, operand_named, is_taken}
 use Rattle.scr_words.specs.WordParts.{has_equals, name_in, value_in, is_named, chosen}

@@ -5,12 +5,17 @@ use Rattle.std.specs.Str.{bytes_eq}
 use Rattle.scr_base.specs.Numbers.{number_of}
 use Rattle.scr_plan.specs.Spelling.{Spells}
 use Rattle.scr_knock.specs.Ports.{ports_in}
+use Rattle.scr_tables.specs.Spelling as tables
 use Rattle.scr_words.specs.declared.settings.ProgramSettings.{ProgramSettings}
-use Rattle.scr_words.specs.declared.settings.ProgramSettings.TheVariants.{Ddos, Heavy, Bucket, Knock, Conn}
+use Rattle.scr_words.specs.declared.settings.ProgramSettings.TheVariants.{One, Chain, Table}
+use Rattle.scr_words.specs.declared.settings.OneSettings.{OneSettings}
+use Rattle.scr_words.specs.declared.settings.OneSettings.TheVariants.{Ddos, Heavy, Bucket, Knock, Conn}
 use Rattle.scr_words.specs.declared.settings.RunSettings.{RunSettings}
 use Rattle.scr_words.specs.declared.settings.Shape.{Shape}
 use Rattle.scr_knock.specs.declared.settings.KnockSettings.{KnockSettings}
-use Rattle.scr_words.specs.declared.operand.ProgramName.TheVariants as program
+use Rattle.scr_words.specs.declared.program_name.OneName.{OneName}
+use Rattle.scr_words.specs.declared.program_name.OneName.TheVariants as name
+use Rattle.scr_words.specs.declared.program_name.ProgramName.TheVariants as program
 use Rattle.scr_words.specs.declared.operand.Operand.{Operand}
 use Rattle.scr_words.specs.declared.operand.Operand.TheVariants as operand
 use Rattle.scr_words.specs.Operands.{table, command_named}
@@ -35,23 +40,34 @@ HasPorts text settings = MatchResult (ports_in text)
     (λ ports. (settings.first ≡ ports.0) × (settings.second ≡ ports.1) × (settings.third ≡ ports.2))
     (λ refusal. ⊥)
 
--- the chosen program, with its numbers
-abbrev pub HasProgram : List (List ℕ) → ProgramSettings → Type 0
-HasProgram operands (Ddos settings) = (chosen operands ≡ Some program.Ddos)
-    × (settings.threshold ≡ number_for operand.Threshold operands)
-    × (settings.flows ≡ number_for operand.Flows operands)
-HasProgram operands (Heavy settings) = (chosen operands ≡ Some program.Heavy)
-    × (settings.bytes ≡ number_for operand.Bytes operands)
-    × (settings.flows ≡ number_for operand.Flows operands)
-HasProgram operands (Bucket settings) = (chosen operands ≡ Some program.Bucket)
-    × (settings.rate ≡ number_for operand.Rate operands)
+-- which program settings are for
+abbrev pub name_of : OneSettings → OneName
+name_of (Ddos settings) = name.Ddos
+name_of (Heavy settings) = name.Heavy
+name_of (Bucket settings) = name.Bucket
+name_of (Knock settings) = name.Knock
+name_of (Conn settings) = name.Conn
+
+-- its numbers
+abbrev pub HasNumbers : List (List ℕ) → OneSettings → Type 0
+HasNumbers operands (Ddos settings) =
+    (settings.threshold ≡ number_for operand.Threshold operands) × (settings.flows ≡ number_for operand.Flows operands)
+HasNumbers operands (Heavy settings) =
+    (settings.bytes ≡ number_for operand.Bytes operands) × (settings.flows ≡ number_for operand.Flows operands)
+HasNumbers operands (Bucket settings) = (settings.rate ≡ number_for operand.Rate operands)
     × (settings.burst ≡ number_for operand.Burst operands)
     × (settings.flows ≡ number_for operand.Flows operands)
-HasProgram operands (Knock settings) = (chosen operands ≡ Some program.Knock)
-    × HasPorts (value_for operand.Ports operands) settings
-    × (settings.flows ≡ number_for operand.Flows operands)
-HasProgram operands (Conn settings) = (chosen operands ≡ Some program.Conn)
-    × (settings.idle ≡ number_for operand.Idle operands)
+HasNumbers operands (Knock settings) =
+    HasPorts (value_for operand.Ports operands) settings × (settings.flows ≡ number_for operand.Flows operands)
+HasNumbers operands (Conn settings) =
+    (settings.idle ≡ number_for operand.Idle operands) × (settings.flows ≡ number_for operand.Flows operands)
+
+-- the chosen program, with its numbers or its rules
+abbrev pub HasProgram : List (List ℕ) → ProgramSettings → Type 0
+HasProgram operands (One settings) = (chosen operands ≡ Some (program.One (name_of settings))) × HasNumbers operands settings
+HasProgram operands (Chain first second) = ⊥
+HasProgram operands (Table settings) = (chosen operands ≡ Some program.Table)
+    × tables.Spells (value_for operand.Table operands) settings.table
     × (settings.flows ≡ number_for operand.Flows operands)
 
 -- how frames go to cores

@@ -1,20 +1,22 @@
 -- The operands of a command line: their names, who takes them, what their values are, and which value stands where the
 -- words give none.
-use Rattle.std.specs.Prelude.{ℕ, ◌≤◌, ⊤, Bool, true, false, List, [], ◌∷◌, Option, codes}
+use Rattle.std.specs.Prelude.{ℕ, ◌≤◌, ⊤, Bool, true, false, List, [], ◌∷◌, Option, Some, codes}
 use Rattle.std.specs.List.{find}
 use Rattle.std.specs.Option.{option_map_or}
 use Rattle.std.specs.Str.{bytes_eq}
 use Rattle.scr_words.specs.Limits.{most_flows, most_cores, most_history, most_ring, most_frames, most_hosts}
 use Rattle.scr_words.specs.declared.settings.Command.{Command}
 use Rattle.scr_words.specs.declared.settings.Command.TheVariants.{Run, Plain, Load}
-use Rattle.scr_words.specs.declared.operand.ProgramName.{ProgramName}
-use Rattle.scr_words.specs.declared.operand.ProgramName.TheVariants.{Ddos, Heavy, Bucket, Knock, Conn}
+use Rattle.scr_words.specs.declared.program_name.OneName.{OneName}
+use Rattle.scr_words.specs.declared.program_name.OneName.TheVariants.{Ddos, Heavy, Bucket, Knock, Conn}
+use Rattle.scr_words.specs.declared.program_name.ProgramName.{ProgramName}
+use Rattle.scr_words.specs.declared.program_name.ProgramName.TheVariants as program
 use Rattle.scr_words.specs.declared.operand.Operand.{Operand}
 use Rattle.scr_words.specs.declared.operand.Operand.TheVariants as operand
 use Rattle.scr_words.specs.declared.operand.Taker.{Taker}
 use Rattle.scr_words.specs.declared.operand.Taker.TheVariants as taker
 use Rattle.scr_words.specs.declared.operand.Form.{Form}
-use Rattle.scr_words.specs.declared.operand.Form.TheVariants.{OneProgram, Number, DropList, YesNo, ThreePorts}
+use Rattle.scr_words.specs.declared.operand.Form.TheVariants.{OneProgram, Number, DropList, YesNo, ThreePorts, TableText}
 
 -- the names of the commands and of the programs
 abbrev pub command_name : Command → List ℕ
@@ -22,18 +24,23 @@ command_name Run = codes "run"
 command_name Plain = codes "plain"
 command_name Load = codes "load"
 
+abbrev pub one_name : OneName → List ℕ
+one_name Ddos = codes "ddos"
+one_name Heavy = codes "heavy"
+one_name Bucket = codes "bucket"
+one_name Knock = codes "knock"
+one_name Conn = codes "conn"
+
 abbrev pub program_name : ProgramName → List ℕ
-program_name Ddos = codes "ddos"
-program_name Heavy = codes "heavy"
-program_name Bucket = codes "bucket"
-program_name Knock = codes "knock"
-program_name Conn = codes "conn"
+program_name (program.One one) = one_name one
+program_name program.Table = codes "table"
 
 abbrev pub all_commands : List Command
 all_commands = Run ∷ Plain ∷ Load ∷ []
 
 abbrev pub all_programs : List ProgramName
-all_programs = Ddos ∷ Heavy ∷ Bucket ∷ Knock ∷ Conn ∷ []
+all_programs =
+    program.One Ddos ∷ program.One Heavy ∷ program.One Bucket ∷ program.One Knock ∷ program.One Conn ∷ program.Table ∷ []
 
 -- the command or the program with a name
 unfoldable pub command_named : List ℕ → Option Command
@@ -52,7 +59,10 @@ pub record Line : Type 0 where
 abbrev pub line : List ℕ → Taker → Form → List ℕ → Line
 line name taker form default = record { name = name; taker = taker; form = form; default = default }
 
--- The table. A program has no default, and the default history is one less than the cores.
+abbrev pub taker_of : OneName → Taker
+taker_of one = taker.Program (program.One one)
+
+-- The table. A program and a table have no default, and the default history is one less than the cores.
 abbrev pub table : Operand → Line
 table operand.Program = line (codes "program") taker.Every OneProgram []
 table operand.Flows = line (codes "flows") taker.Every (Number 1 most_flows) (codes "4096")
@@ -64,18 +74,19 @@ table operand.Threads = line (codes "threads") taker.WithCores YesNo (codes "yes
 table operand.Start = line (codes "start") taker.LoadAlone (Number 0 18446744073709551615) (codes "0")
 table operand.Frames = line (codes "frames") taker.LoadAlone (Number 0 most_frames) (codes "1000")
 table operand.Hosts = line (codes "hosts") taker.LoadAlone (Number 1 most_hosts) (codes "16")
-table operand.Threshold = line (codes "threshold") (taker.Program Ddos) (Number 0 4294967295) (codes "1000")
-table operand.Bytes = line (codes "bytes") (taker.Program Heavy) (Number 1 1000000000000) (codes "1000000")
-table operand.Rate = line (codes "rate") (taker.Program Bucket) (Number 0 1000000000) (codes "1000")
-table operand.Burst = line (codes "burst") (taker.Program Bucket) (Number 1 1000000000) (codes "100")
-table operand.Ports = line (codes "ports") (taker.Program Knock) ThreePorts (codes "7000,8000,9000")
-table operand.Idle = line (codes "idle") (taker.Program Conn) (Number 1 10000000000000) (codes "60000000")
+table operand.Threshold = line (codes "threshold") (taker_of Ddos) (Number 0 4294967295) (codes "1000")
+table operand.Bytes = line (codes "bytes") (taker_of Heavy) (Number 1 1000000000000) (codes "1000000")
+table operand.Rate = line (codes "rate") (taker_of Bucket) (Number 0 1000000000) (codes "1000")
+table operand.Burst = line (codes "burst") (taker_of Bucket) (Number 1 1000000000) (codes "100")
+table operand.Ports = line (codes "ports") (taker_of Knock) ThreePorts (codes "7000,8000,9000")
+table operand.Idle = line (codes "idle") (taker_of Conn) (Number 1 10000000000000) (codes "60000000")
+table operand.Table = line (codes "table") (taker.Program program.Table) TableText []
 
 abbrev pub all_operands : List Operand
 all_operands =
     operand.Program ∷ operand.Flows ∷ operand.Cores ∷ operand.History ∷ operand.Drop ∷ operand.Ring ∷ operand.Threads
     ∷ operand.Start ∷ operand.Frames ∷ operand.Hosts ∷ operand.Threshold ∷ operand.Bytes ∷ operand.Rate ∷ operand.Burst
-    ∷ operand.Ports ∷ operand.Idle ∷ []
+    ∷ operand.Ports ∷ operand.Idle ∷ operand.Table ∷ []
 
 -- the operand with a name
 unfoldable pub operand_named : List ℕ → Option Operand
@@ -92,7 +103,7 @@ makes_load Run = false
 makes_load Plain = false
 makes_load Load = true
 
-abbrev pub is_same : ProgramName → ProgramName → Bool
+abbrev pub is_same : OneName → OneName → Bool
 is_same Ddos Ddos = true
 is_same Heavy Heavy = true
 is_same Bucket Bucket = true
@@ -100,13 +111,19 @@ is_same Knock Knock = true
 is_same Conn Conn = true
 is_same _ _ = false
 
+-- whether a chosen program takes the operands of another one
+abbrev pub takes_those_of : ProgramName → ProgramName → Bool
+takes_those_of (program.One chosen) (program.One one) = is_same chosen one
+takes_those_of program.Table program.Table = true
+takes_those_of chosen other = false
+
 -- Whether an operand with this taker is taken beside this command and the chosen program. Where no program is chosen,
--- the operands of each of the five are.
+-- the operands of each are.
 abbrev pub is_taken : Command → Option ProgramName → Taker → Bool
 is_taken command chosen taker.Every = true
 is_taken command chosen taker.WithCores = runs_cores command
 is_taken command chosen taker.LoadAlone = makes_load command
-is_taken command chosen (taker.Program program) = option_map_or (is_same program) chosen true
+is_taken command chosen (taker.Program program) = option_map_or (λ running. takes_those_of running program) chosen true
 
 -- a number's form has its ends in order
 abbrev pub IsOrdered : Form → Type 0
@@ -121,3 +138,8 @@ is_numeric _ = false
 abbrev pub IsWithin : Form → ℕ → Type 0
 IsWithin (Number least greatest) number = (least ≤ number) × (number ≤ greatest)
 IsWithin _ number = ⊥
+
+-- the operands that a program can't do without
+abbrev pub required : Option ProgramName → List Operand
+required (Some program.Table) = operand.Program ∷ operand.Table ∷ []
+required _ = operand.Program ∷ []

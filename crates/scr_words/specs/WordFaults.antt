@@ -1,12 +1,9 @@
 -- Why the words of a command line are refused. Words are numbered from 1: the first is the command, and each further one
 -- is an operand. A place counts the operands from 0, so the operand at place i is word i + 2.
-use Rattle.std.specs.Prelude.{◌≡◌, ◌⊎◌, ℕ, ◌+◌, ◌<◌, ◌||◌, not, List, [], ◌∷◌, length, take, Option, Some, None, MatchOption, Result, Ok, Err, is_some, codes, if◌then◌else◌}
+use Rattle.std.specs.Prelude.{◌≡◌, ◌⊎◌, ℕ, ◌+◌, ◌<◌, Bool, true, ◌||◌, not, List, [], ◌∷◌, length, take, Option, Some, None, MatchOption, Result, Ok, Err, is_some, codes, if◌then◌else◌}
 use Rattle.std.specs.List.{list_any, slice_index_or}
 use Rattle.std.specs.Option.{option_map_or}
 use Rattle.std.specs.Str.{bytes_eq}
-use Rattle.scr_plan.specs.Spelling.{pieces_of, piece_read}
-use Rattle.scr_plan.specs.declared.drops.DropRange.{DropRange}
-use Rattle.scr_plan.specs.declared.reading.DropCause.{DropCause}
 use Rattle.scr_program.specs.declared.setting.SettingError.{SettingError}
 use Rattle.scr_program.specs.declared.setting.SettingError.TheVariants as setting
 use Rattle.scr_program.specs.Settings.{setting_within}
@@ -15,28 +12,13 @@ use Rattle.scr_words.specs.declared.word_fault.WordCause.{WordCause}
 use Rattle.scr_words.specs.declared.word_fault.WordCause.TheVariants as cause
 use Rattle.scr_words.specs.declared.word_fault.WordFault.{WordFault}
 use Rattle.scr_words.specs.declared.settings.Command.{Command}
-use Rattle.scr_words.specs.declared.operand.ProgramName.{ProgramName}
+use Rattle.scr_words.specs.declared.program_name.ProgramName.{ProgramName}
 use Rattle.scr_words.specs.declared.operand.Operand.{Operand}
-use Rattle.scr_words.specs.declared.operand.Operand.TheVariants as operand
 use Rattle.scr_words.specs.declared.operand.Form.{Form}
-use Rattle.scr_words.specs.declared.operand.Form.TheVariants.{OneProgram, Number, DropList, YesNo, ThreePorts}
-use Rattle.scr_words.specs.Operands.{table, operand_named, command_named, program_named, is_taken}
-use Rattle.scr_words.specs.WordParts.{has_equals, name_in, value_in, is_named, given, chosen}
-
--- The fault of the pieces of a drop list, behind so many pieces and bytes: the first that is refused, with its cause and
--- its place.
-abbrev pub refused_or : Result DropRange DropCause → ℕ → Option WordCause → Option WordCause
-refused_or (Ok range) place rest = rest
-refused_or (Err refusal) place rest = Some (cause.Drop refusal place)
-
-abbrev pub pieces_fault : (before place : ℕ) → List (List ℕ) → Option WordCause
-pieces_fault before place [] = None
-pieces_fault before place (piece ∷ pieces) =
-    refused_or (piece_read before piece) place (pieces_fault (before + 1) (place + (length piece + 1)) pieces)
-
-unfoldable pub drop_list_fault : List ℕ → Option WordCause
-drop_list_fault [] = None
-drop_list_fault (byte ∷ text) = pieces_fault 0 0 (pieces_of (byte ∷ text))
+use Rattle.scr_words.specs.declared.operand.Form.TheVariants.{OneProgram, Number, DropList, YesNo, ThreePorts, TableText}
+use Rattle.scr_words.specs.Operands.{table, operand_named, command_named, program_named, is_taken, required}
+use Rattle.scr_words.specs.WordParts.{has_equals, name_in, value_in, is_named, is_absent, chosen}
+use Rattle.scr_words.specs.TextFaults.{drop_list_fault, table_fault}
 
 -- the fault of a value that is read as a setting is
 abbrev pub setting_cause : SettingError → WordCause
@@ -56,6 +38,7 @@ value_fault DropList value = drop_list_fault value
 value_fault YesNo value =
     if bytes_eq value (codes "yes") || bytes_eq value (codes "no") then None else Some cause.Value
 value_fault ThreePorts value = setting_fault (ports_in value)
+value_fault TableText value = table_fault value
 
 -- The fault of a word, beside this command and the chosen program and behind the operands `before`: the first of these
 -- that holds of it.
@@ -88,10 +71,14 @@ pub record IsFirstFault (command : Command) (operands : List (List ℕ)) (fault 
   pub cause : fault_at command operands place ≡ Some fault.cause
   pub number : fault.word ≡ place + 2
 
--- no operand has a fault, and none names a program: one word more is missing
+-- a required operand is absent
+abbrev pub lacks_operand : List (List ℕ) → Bool
+lacks_operand operands = list_any (is_absent operands) (required (chosen operands))
+
+-- no operand has a fault, and a required one is absent: one word more is missing
 pub record IsMissing (command : Command) (operands : List (List ℕ)) (fault : WordFault) : Type 0 where
   pub faultless : AreFaultless command operands
-  pub none : given (table operand.Program).name operands ≡ None
+  pub lacks : lacks_operand operands ≡ true
   pub cause : fault.cause ≡ cause.Missing
   pub number : fault.word ≡ length operands + 2
 

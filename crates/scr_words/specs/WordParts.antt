@@ -1,9 +1,10 @@
 -- A word as an operand: a name and a value, parted by the first `=`.
-use Rattle.std.specs.Prelude.{ℕ, Bool, ◌&&◌, List, Option, option_map, option_and_then}
+use Rattle.std.specs.Prelude.{ℕ, Bool, ◌&&◌, List, Option, is_none, option_map, option_and_then}
 use Rattle.std.specs.List.{find}
 use Rattle.std.specs.Str.{bytes_eq}
 use Rattle.scr_plan.specs.Spelling.{has_byte, in_front, behind}
-use Rattle.scr_words.specs.declared.operand.ProgramName.{ProgramName}
+use Rattle.scr_words.specs.declared.program_name.ProgramName.{ProgramName}
+use Rattle.scr_words.specs.declared.operand.Operand.{Operand}
 use Rattle.scr_words.specs.declared.operand.Operand.TheVariants as operand
 use Rattle.scr_words.specs.Operands.{program_named, table}
 
@@ -27,3 +28,7 @@ given name words = option_map value_in (find (is_named name) words)
 -- the program that the words choose: the value of the first that begins with `program=`, where it is one of the names
 abbrev pub chosen : List (List ℕ) → Option ProgramName
 chosen words = option_and_then program_named (given (table operand.Program).name words)
+
+-- whether no word gives an operand
+abbrev pub is_absent : List (List ℕ) → Operand → Bool
+is_absent words operand = is_none (given (table operand).name words)

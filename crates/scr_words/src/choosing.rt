@@ -1,15 +1,16 @@
-ghost use Rattle.std.specs.Prelude.{◌≡◌, ◌≤◌, IsTrue, Some, None, IfOk};
+ghost use Rattle.std.specs.Prelude.{◌≡◌, ◌≤◌, IsTrue, Some, None, IfOk, MatchOption};
 ghost use Rattle.scr_base.specs.Numbers.{number_of};
 ghost use Rattle.scr_plan.specs.Spelling.{Spells};
 ghost use Rattle.scr_words.specs.Operands.{table, is_numeric, IsWithin};
 ghost use Rattle.scr_words.specs.WordParts.{chosen};
-ghost use Rattle.scr_words.specs.WordFaults.{value_fault};
+ghost use Rattle.scr_words.specs.WordFaults.{value_fault, lacks_operand};
 ghost use Rattle.scr_words.specs.WordTests.{HaveFaultlessValues};
-ghost use Rattle.scr_words.specs.GivenSettings.{value_for, number_for, history_for, HasPorts, HasProgram, HasShape, AreChosen};
+ghost use Rattle.scr_words.specs.GivenSettings.{value_for, number_for, history_for, HasPorts, HasNumbers, name_of, HasProgram, HasShape, AreChosen};
 
-use crate::operand::{Form, Operand, ProgramName};
-use crate::parts::given;
-use crate::settings::{Command, ProgramSettings, RunSettings, Shape};
+use crate::operand::{Form, Operand};
+use crate::parts::{chosen, given};
+use crate::program_name::{OneName, ProgramName};
+use crate::settings::{Command, OneSettings, ProgramSettings, RunSettings, Shape};
 use scr_base::{OutOfMemory, Word, read_number};
 use scr_bucket::BucketSettings;
 use scr_conn::ConnSettings;
@@ -17,52 +18,83 @@ use scr_ddos::DdosSettings;
 use scr_heavy::HeavySettings;
 use scr_knock::KnockSettings;
 use scr_plan::{DropError, Drops};
+use scr_tables::{Table, TableError, TableSettings};
 use std::alloc::Global;
 
-/// The settings that operands choose, all of which passed their tests.
+/// The settings that operands choose, all of which passed their tests, or none where a required one is absent.
 pub(crate) fn settings(
     alloc: Global,
     command: Command,
-    program: ProgramName,
     operands: &[Word],
-) -> Result<RunSettings, OutOfMemory>
+) -> Result<Option<RunSettings>, OutOfMemory>
     requires values { HaveFaultlessValues operands.now }
-    requires program { chosen operands.now ≡ Some program }
-    ensures command { IfOk result (λ settings. settings.command ≡ command) }
-    ensures chosen { IfOk result (AreChosen operands.now) }
+    ensures { IfOk result (λ made. MatchOption made (IsTrue (lacks_operand operands.now)) (λ settings. (settings.command ≡ command) × AreChosen operands.now settings)) }
 {
-    Ok(RunSettings {
+    let Some(program) = program_settings(alloc, operands)? else {
+        return Ok(None);
+    };
+    Ok(Some(RunSettings {
         command,
-        program: program_settings(program, operands),
+        program,
         shape: shape(alloc, operands)?,
         start: number(Operand::Start, operands),
         frames: number(Operand::Frames, operands) as u32,
         hosts: number(Operand::Hosts, operands) as u32,
-    })
+    }))
 }
 
-fn program_settings(program: ProgramName, operands: &[Word]) -> ProgramSettings
+fn program_settings(
+    alloc: Global,
+    operands: &[Word],
+) -> Result<Option<ProgramSettings>, OutOfMemory>
     requires values { HaveFaultlessValues operands.now }
-    requires program { chosen operands.now ≡ Some program }
-    ensures { HasProgram operands.now result }
+    ensures { IfOk result (λ made. MatchOption made (IsTrue (lacks_operand operands.now)) (HasProgram operands.now)) }
+{
+    match chosen(operands) {
+        None => Ok(None),
+        Some(ProgramName::One(one)) => Ok(Some(ProgramSettings::One(one_settings(one, operands)))),
+        Some(ProgramName::Table) => table_settings(alloc, operands),
+    }
+}
+
+fn table_settings(alloc: Global, operands: &[Word]) -> Result<Option<ProgramSettings>, OutOfMemory>
+    requires values { HaveFaultlessValues operands.now }
+    requires program { chosen operands.now ≡ Some ProgramName.Table }
+    ensures { IfOk result (λ made. MatchOption made (IsTrue (lacks_operand operands.now)) (HasProgram operands.now)) }
+{
+    let Some(text) = given(Operand::Table.line().name, operands) else {
+        return Ok(None);
+    };
+    let flows = number(Operand::Flows, operands) as u32;
+    match Table::read(alloc, text) {
+        Ok(table) => Ok(Some(ProgramSettings::Table(TableSettings::new(table, flows)))),
+        Err(TableError::OutOfMemory(want)) => Err(want),
+        Err(TableError::Refused { .. }) => unreachable!(),
+    }
+}
+
+fn one_settings(name: OneName, operands: &[Word]) -> OneSettings
+    requires values { HaveFaultlessValues operands.now }
+    ensures name { name_of result ≡ name }
+    ensures numbers { HasNumbers operands.now result }
 {
     let flows = number(Operand::Flows, operands) as u32;
-    match program {
-        ProgramName::Ddos => ProgramSettings::Ddos(DdosSettings {
+    match name {
+        OneName::Ddos => OneSettings::Ddos(DdosSettings {
             threshold: number(Operand::Threshold, operands),
             flows,
         }),
-        ProgramName::Heavy => ProgramSettings::Heavy(HeavySettings {
+        OneName::Heavy => OneSettings::Heavy(HeavySettings {
             bytes: number(Operand::Bytes, operands),
             flows,
         }),
-        ProgramName::Bucket => ProgramSettings::Bucket(BucketSettings {
+        OneName::Bucket => OneSettings::Bucket(BucketSettings {
             rate: number(Operand::Rate, operands),
             burst: number(Operand::Burst, operands),
             flows,
         }),
-        ProgramName::Knock => ProgramSettings::Knock(knock_settings(flows, operands)),
-        ProgramName::Conn => ProgramSettings::Conn(ConnSettings {
+        OneName::Knock => OneSettings::Knock(knock_settings(flows, operands)),
+        OneName::Conn => OneSettings::Conn(ConnSettings {
             idle: number(Operand::Idle, operands),
             flows,
         }),

@@ -3,8 +3,9 @@ ghost use Rattle.scr_words.specs.Operands.{IsOrdered};
 ghost use Rattle.scr_words.specs.WordFaults.{value_fault, operand_fault, AreFaultless};
 ghost use Rattle.scr_words.specs.WordTests.{Tells, IsFirstFaultBy};
 
-use crate::operand::{Form, Operand, ProgramName};
+use crate::operand::{Form, Operand};
 use crate::parts::{chosen, is_named, parts_of};
+use crate::program_name::ProgramName;
 use crate::reading::WordsError;
 use crate::settings::Command;
 use crate::word_fault::{WordCause, WordFault};
@@ -12,6 +13,7 @@ use scr_base::{OutOfMemory, Word};
 use scr_knock::KnockSettings;
 use scr_plan::{DropError, Drops};
 use scr_program::{SettingError, read_setting};
+use scr_tables::{Table, TableError};
 use std::alloc::Global;
 
 /// Why the test of a word didn't pass.
@@ -51,6 +53,22 @@ impl From<DropError> for TestError {
                 TestError::Refused(WordCause::Drop { cause, place })
             }
             DropError::OutOfMemory(want) => TestError::OutOfMemory(want),
+        }
+    }
+}
+
+impl From<TableError> for TestError {
+    ghost use Rattle.std.specs.Prelude.{◌≡◌};
+    ghost use Rattle.scr_words.specs.WordTests.{table_error};
+
+    ghost from_gives = { λ error made. made ≡ table_error error };
+
+    fn from(error: TableError) -> Self {
+        match error {
+            TableError::Refused { cause, place } => {
+                TestError::Refused(WordCause::Table { cause, place })
+            }
+            TableError::OutOfMemory(want) => TestError::OutOfMemory(want),
         }
     }
 }
@@ -132,6 +150,10 @@ fn test_value(alloc: Global, form: Form, value: &[u8]) -> Result<(), TestError>
         }
         Form::ThreePorts => {
             KnockSettings::new(1).set(b"ports", value)?;
+            Ok(())
+        }
+        Form::TableText => {
+            let _ = Table::read(alloc, value)?;
             Ok(())
         }
     }

@@ -22,6 +22,7 @@ mod faults;
 mod laws;
 mod operand;
 mod parts;
+mod program_name;
 mod reading;
 mod settings;
 #[cfg(test)]
@@ -31,6 +32,6 @@ mod word_line;
 
 pub use laws::{one_answer, some_answer};
 pub use reading::{WordsError, read_words};
-pub use settings::{Command, ProgramSettings, RunSettings, Shape};
+pub use settings::{Command, OneSettings, ProgramSettings, RunSettings, Shape};
 pub use word_fault::{WordCause, WordFault};
 pub use word_line::put_word_line;

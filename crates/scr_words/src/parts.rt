@@ -2,7 +2,8 @@ ghost use Rattle.std.specs.Prelude.{◌≡◌, MatchOption, false, option_copied
 ghost use Rattle.scr_plan.specs.Spelling.{IsCut};
 ghost use Rattle.scr_words.specs.WordParts.{has_equals, is_named, given, chosen};
 
-use crate::operand::{Operand, ProgramName};
+use crate::operand::Operand;
+use crate::program_name::ProgramName;
 use scr_base::Word;
 
 /// The name and the value of a word: what stands in front of its first `=`, and what behind it.

@@ -7,6 +7,7 @@ use scr_ddos::DdosSettings;
 use scr_heavy::HeavySettings;
 use scr_knock::KnockSettings;
 use scr_plan::Drops;
+use scr_tables::TableSettings;
 
 /// What the program is to do.
 #[derive(Clone, Copy, Debug, PartialEq, Eq)]
@@ -19,9 +20,9 @@ pub enum Command {
     Load,
 }
 
-/// A packet program, and the numbers that are chosen for it.
+/// One of the five programs, with the numbers that are chosen for it.
 #[derive(Clone, Copy, Debug, PartialEq, Eq)]
-pub enum ProgramSettings {
+pub enum OneSettings {
     /// The flood counter.
     Ddos(DdosSettings),
     /// Heavy flows.
@@ -32,6 +33,21 @@ pub enum ProgramSettings {
     Knock(KnockSettings),
     /// The connection tracker.
     Conn(ConnSettings),
+}
+
+/// What runs.
+#[derive(Debug, Drop)]
+pub enum ProgramSettings {
+    /// One program.
+    One(OneSettings),
+    /// A chain: the second program sees what the first lets pass. The first is never the connection tracker, and the two
+    /// differ.
+    Chain {
+        first: OneSettings,
+        second: OneSettings,
+    },
+    /// A table of rules.
+    Table(TableSettings),
 }
 
 /// How the frames of a run go to its cores.

@@ -32,7 +32,7 @@ fn read(alloc: Global, line: &str) -> Result<RunSettings, WordsError> {
 fn has_a_default_for_each_operand(rt: HostRuntime) -> Result<(), Fail> {
     let settings = read(rt.alloc(), "run program=ddos").map_err(|_| "refused")?;
     assert_eq!(rt; settings.command, Command::Run);
-    let ProgramSettings::Ddos(program) = settings.program else {
+    let ProgramSettings::One(OneSettings::Ddos(program)) = settings.program else {
         return Err(Fail::from("another program"));
     };
     assert_eq!(rt; (program.threshold, program.flows), (1000, 4096));
@@ -46,27 +46,31 @@ fn has_a_default_for_each_operand(rt: HostRuntime) -> Result<(), Fail> {
     Ok(())
 }
 
-fn program(alloc: Global, line: &str) -> Option<ProgramSettings> {
-    match read(alloc, line) {
-        Ok(settings) => Some(settings.program),
-        Err(_) => None,
+fn program(alloc: Global, line: &str) -> Option<OneSettings> {
+    one(read(alloc, line).ok()?.program)
+}
+
+fn one(program: ProgramSettings) -> Option<OneSettings> {
+    match program {
+        ProgramSettings::One(settings) => Some(settings),
+        _ => None,
     }
 }
 
 #[test]
 fn has_the_defaults_of_each_program(rt: HostRuntime) -> Result<(), Fail> {
     let bytes = 1_000_000;
-    let heavy = ProgramSettings::Heavy(HeavySettings { bytes, flows: 4096 });
+    let heavy = OneSettings::Heavy(HeavySettings { bytes, flows: 4096 });
     assert_eq!(rt; program(rt.alloc(), "plain program=heavy"), Some(heavy));
     let (rate, burst) = (1000, 100);
-    let bucket = ProgramSettings::Bucket(BucketSettings {
+    let bucket = OneSettings::Bucket(BucketSettings {
         rate,
         burst,
         flows: 4096,
     });
     assert_eq!(rt; program(rt.alloc(), "load program=bucket"), Some(bucket));
     let (first, second, third) = (7000, 8000, 9000);
-    let knock = ProgramSettings::Knock(KnockSettings {
+    let knock = OneSettings::Knock(KnockSettings {
         first,
         second,
         third,
@@ -74,7 +78,7 @@ fn has_the_defaults_of_each_program(rt: HostRuntime) -> Result<(), Fail> {
     });
     assert_eq!(rt; program(rt.alloc(), "run program=knock"), Some(knock));
     let idle = 60_000_000;
-    let conn = ProgramSettings::Conn(ConnSettings { idle, flows: 4096 });
+    let conn = OneSettings::Conn(ConnSettings { idle, flows: 4096 });
     assert_eq!(rt; program(rt.alloc(), "run program=conn"), Some(conn));
     Ok(())
 }
@@ -82,15 +86,15 @@ fn has_the_defaults_of_each_program(rt: HostRuntime) -> Result<(), Fail> {
 #[test]
 fn takes_each_program_operand(rt: HostRuntime) -> Result<(), Fail> {
     let (threshold, flows) = (4_294_967_295, 65_536);
-    let ddos = ProgramSettings::Ddos(DdosSettings { threshold, flows });
+    let ddos = OneSettings::Ddos(DdosSettings { threshold, flows });
     let line = "run threshold=4294967295 flows=65536 program=ddos";
     assert_eq!(rt; program(rt.alloc(), line), Some(ddos));
     let bytes = 1_000_000_000_000;
-    let heavy = ProgramSettings::Heavy(HeavySettings { bytes, flows: 1 });
+    let heavy = OneSettings::Heavy(HeavySettings { bytes, flows: 1 });
     let line = "run program=heavy bytes=1000000000000 flows=1";
     assert_eq!(rt; program(rt.alloc(), line), Some(heavy));
     let (rate, burst) = (0, 1_000_000_000);
-    let bucket = ProgramSettings::Bucket(BucketSettings {
+    let bucket = OneSettings::Bucket(BucketSettings {
         rate,
         burst,
         flows: 9,
@@ -98,7 +102,7 @@ fn takes_each_program_operand(rt: HostRuntime) -> Result<(), Fail> {
     let line = "run burst=1000000000 program=bucket flows=9 rate=0";
     assert_eq!(rt; program(rt.alloc(), line), Some(bucket));
     let (first, second, third) = (1, 65_535, 22);
-    let knock = ProgramSettings::Knock(KnockSettings {
+    let knock = OneSettings::Knock(KnockSettings {
         first,
         second,
         third,
@@ -107,7 +111,7 @@ fn takes_each_program_operand(rt: HostRuntime) -> Result<(), Fail> {
     let line = "run ports=0001,65535,022 program=knock";
     assert_eq!(rt; program(rt.alloc(), line), Some(knock));
     let idle = 10_000_000_000_000;
-    let conn = ProgramSettings::Conn(ConnSettings { idle, flows: 4096 });
+    let conn = OneSettings::Conn(ConnSettings { idle, flows: 4096 });
     let line = "run program=conn idle=10000000000000";
     assert_eq!(rt; program(rt.alloc(), line), Some(conn));
     Ok(())
@@ -142,8 +146,8 @@ fn gives_the_greatest_of_each_setting(rt: HostRuntime) -> Result<(), Fail> {
         "load program=ddos flows=65536 cores=16 history=64 ring=4096 start=18446744073709551615 frames=1000000 hosts=65536 threshold=4294967295";
     let settings = read(rt.alloc(), line).map_err(|_| "refused")?;
     let (threshold, flows) = (4_294_967_295, 65_536);
-    let ddos = ProgramSettings::Ddos(DdosSettings { threshold, flows });
-    assert_eq!(rt; settings.program, ddos);
+    let ddos = OneSettings::Ddos(DdosSettings { threshold, flows });
+    assert_eq!(rt; one(settings.program), Some(ddos));
     let shape = settings.shape;
     assert_eq!(rt; (shape.cores, shape.history, shape.ring), (16, 64, 4096));
     assert_eq!(rt;
@@ -151,7 +155,7 @@ fn gives_the_greatest_of_each_setting(rt: HostRuntime) -> Result<(), Fail> {
         (u64::MAX, 1_000_000, 65_536)
     );
     let (rate, burst) = (1_000_000_000, 1_000_000_000);
-    let bucket = ProgramSettings::Bucket(BucketSettings { rate, burst, flows });
+    let bucket = OneSettings::Bucket(BucketSettings { rate, burst, flows });
     let line = "plain program=bucket rate=1000000000 burst=00001000000000 flows=065536";
     assert_eq!(rt; program(rt.alloc(), line), Some(bucket));
     Ok(())
@@ -159,16 +163,16 @@ fn gives_the_greatest_of_each_setting(rt: HostRuntime) -> Result<(), Fail> {
 
 #[test]
 fn takes_an_empty_drop_list_and_numbers_beyond_the_run(rt: HostRuntime) -> Result<(), Fail> {
-    let ddos = ProgramSettings::Ddos(DdosSettings {
+    let ddos = OneSettings::Ddos(DdosSettings {
         threshold: 2,
         flows: 4096,
     });
     let settings = read(rt.alloc(), "run threshold=2 program=ddos drop=").map_err(|_| "refused")?;
-    assert_eq!(rt; settings.program, ddos);
+    assert_eq!(rt; one(settings.program), Some(ddos));
     assert!(rt; !settings.shape.drops.has(1));
     let line = "run program=ddos threshold=2 drop=9999";
     let settings = read(rt.alloc(), line).map_err(|_| "refused")?;
-    assert_eq!(rt; settings.program, ddos);
+    assert_eq!(rt; one(settings.program), Some(ddos));
     assert!(rt; settings.shape.drops.has(9999));
     Ok(())
 }

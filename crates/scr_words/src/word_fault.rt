@@ -1,4 +1,5 @@
 use scr_plan::DropCause;
+use scr_tables::TableCause;
 
 /// A refused word: its number, from 1, and why.
 #[derive(Clone, Copy, Debug, PartialEq, Eq)]
@@ -35,6 +36,13 @@ pub enum WordCause {
         /// How many bytes stand before that piece.
         place: u64,
     },
-    /// All words are good, and none of them names a program.
+    /// All words are good, and none of them gives a required operand: the program, or the table of a program given as one.
     Missing,
+    /// The table is refused.
+    Table {
+        /// Why its first refused rule is refused, or that a state lacks a rule for any packet.
+        cause: TableCause,
+        /// How many bytes stand before that rule, or the least such state.
+        place: u64,
+    },
 }

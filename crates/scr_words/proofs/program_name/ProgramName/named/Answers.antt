@@ -4,9 +4,9 @@ use Rattle.std.specs.Prelude.{option_map}
 use Rattle.std.specs.Str.{bytes_eq}
 use Rattle.std.proofs.lemmas.Iterator.{YieldsList-from_slice}
 use Rattle.std.proofs.lemmas.Iterator.Search.{find_from_yields_List}
-use Rattle.scr_words.specs.declared.operand.ProgramName.{ProgramName}
+use Rattle.scr_words.specs.declared.program_name.ProgramName.{ProgramName}
 use Rattle.scr_words.specs.Operands.{program_named, program_name, all_programs}
-use Rattle.scr_words.proofs.operand.ProgramName.named.Goals as goal
+use Rattle.scr_words.proofs.program_name.ProgramName.named.Goals as goal
 
 pub returns : goal.returns
 unfolding program_named
