@@ -47,8 +47,8 @@ def chains(program):
         program, "run program=chain first=knock second=conn", capture(knocks + talk),
         one_core("STOPPED STOPPED STOPPED SYN_SENT STOPPED INVALID CLOSED", 3, behind(STATES)))
     turns = capture([SOURCE, udp("10.0.0.3")] * 2)
-    yield "each table has so many entries", compare(
-        program, "run program=chain first=ddos second=heavy threshold=1 flows=1", turns, one_core("PASS " * 4, 2, behind(HEAVY)))
+    words = "run program=chain first=ddos second=heavy threshold=1 flows=1"
+    yield "each table has so many entries", compare(program, words, turns, one_core("PASS " * 4, 2, behind(HEAVY)))
     yield "no frames", compare(program, "plain program=chain first=bucket second=conn", header(), plain("", 0, behind(STATES)))
 
 

@@ -15,12 +15,13 @@ LET_IN = "0:u>1/D,0:*>0/D,1:t>2/D,1:*>1/D,2:*>2/P"
 GOOD, MANY = "0:*>0/P", ",".join(["0:*>0/P"] * 256)
 
 # Texts that aren't of the form of a rule, and numbers out of range.
-FORMLESS = """x 0 0: 0:* 0:*> 0:*>0 0:*>0/ 0:*>0/p 0:*>0/d 0:*>0/PP 0:*>0/P/D 0:*>0/X 0:*>0//P 0:*>>0/P 0::*>0/P :*>0/P 0:>0/P 0:*>/P
-    0:**>0/P 0:t1>0/P 0:u1>0/P 0:*1>0/P 0:d>0/P 0:f>0/P 0:d-1>0/P 0:d+1>0/P 0:dx>0/P 0:d0x50>0/P 0:x1>0/P 0:1>0/P 0:T>0/P 0:D1>0/P
-    -1:*>0/P +1:*>0/P 0:*>-1/P x:*>0/P 0:*>x/P 0;*>0/P 0:*<0/P 0:*>0\\P 0:td1>0/P 0:d1t>0/P 0:d1-2>0/P 0:*>0/P; é:*>0/P 0:é>0/P ٢:*>0/P
+FORMLESS = """x 0 0: 0:* 0:*> 0:*>0 0:*>0/ 0:*>0/p 0:*>0/d 0:*>0/PP 0:*>0/P/D 0:*>0/X 0:*>0//P 0:*>>0/P 0::*>0/P :*>0/P
+    0:>0/P 0:*>/P 0:**>0/P 0:t1>0/P 0:u1>0/P 0:*1>0/P 0:d>0/P 0:f>0/P 0:d-1>0/P 0:d+1>0/P 0:dx>0/P 0:d0x50>0/P 0:x1>0/P 0:1>0/P
+    0:T>0/P 0:D1>0/P -1:*>0/P +1:*>0/P 0:*>-1/P x:*>0/P 0:*>x/P 0;*>0/P 0:*<0/P 0:*>0\\P 0:td1>0/P 0:d1t>0/P 0:d1-2>0/P
+    0:*>0/P; é:*>0/P 0:é>0/P ٢:*>0/P
     16:x>0/P 0:d65536>0/Q 0:f256>/P 0:t>0/P:1 /P>0:* 0:*=0/P""".split()
-OUTSIDE = ["16:*>0/P", "0:*>16/P", "0:d65536>0/P", "0:f256>0/P", "16:*>16/P", "15:t>99999999999999999999/D", f"0:d{'9' * 40}>0/P",
-           f"{2**64}:*>0/P", f"{2**32}:u>0/P", f"0:*>{2**16}/P", f"0:f{2**8 + 4}>0/P", "0:*>00000000000000000000000016/P"]
+OUTSIDE = ["16:*>0/P", "0:*>16/P", "0:d65536>0/P", "0:f256>0/P", "16:*>16/P", "15:t>99999999999999999999/D",
+           f"0:d{'9' * 40}>0/P", f"{2**64}:*>0/P", f"{2**32}:u>0/P", f"0:*>{2**16}/P", f"0:f{2**8 + 4}>0/P", "0:*>00000000000000000000000016/P"]
 LACKING = [("0:d7>1/P", 0), ("1:*>0/P", 0), ("0:t>0/P", 0), ("0:d7>1/P,1:*>0/P", 0), ("0:*>1/P", 1), ("0:*>15/P,15:t>15/P", 15),
            ("0:*>15/P,0:t>3/D,3:t>3/P", 3), ("0:*>0/P,7:t>9/P", 9), ("0:*>0/P,7:*>9/P", 9), ("15:*>14/P,14:*>13/P,13:*>0/P", 0),
            ("0:*>1/P,1:*>2/P,2:t>0/P,2:u>0/P,2:f0>0/P", 2), ("0:*>9/P,9:*>10/P", 10)]
@@ -38,8 +39,8 @@ def refused_tables(program):
               (f"{MANY},x", "Form at 2048"), (f"{MANY},16:*>0/P", "Range at 2048"), (f"{MANY[:-1]}D,0:*>1/P", "Rules at 2048"),
               (f"{MANY[:-7]}0:*>1/P", "NoAny at 1"),
               # Two faulty rules: the first tells, whatever its cause is; and a missing rule only where no rule is faulty.
-              ("16:*>0/P,x", "Range at 0"), ("x,16:*>0/P", "Form at 0"), ("0:d7>1/P,x", "Form at 9"), ("0:d7>1/P,", "Empty at 9"),
-              ("0:d7>1/P,16:*>0/P", "Range at 9")]
+              ("16:*>0/P,x", "Range at 0"), ("x,16:*>0/P", "Form at 0"), ("0:d7>1/P,x", "Form at 9"),
+              ("0:d7>1/P,", "Empty at 9"), ("0:d7>1/P,16:*>0/P", "Range at 9")]
     for text, cause in cases:
         name = text[:60] if len(text) < 300 else f"{text.count(',') + 1} rules, {cause}"
         yield name, compare(program, ["run", "program=table", f"table={text}"], b"", fault(1, f"word 3: Table {cause}"))
@@ -50,7 +51,8 @@ PING, FRAGMENT = ipv4("10.0.0.1", "10.0.0.2", 1, bytes(8)), ipv4("10.0.0.1", "10
 MIXED = [PING, SOURCE, udp("10.0.0.1", ports=(53, 0)), tcp("10.0.0.1", flags=SYN), tcp("10.0.0.1", flags=0x14), FRAGMENT, arp()]
 MATCHES = [("*", "PPPPPP"), ("t", "DDDPPD"), ("u", "DPPDDD"), ("d53", "DPDDDD"), ("d0", "DDPDDD"), ("d80", "DDDPPD"),
            ("d40000", "DDDDDD"), ("f0", "DDDPPD"), ("f2", "DDDPDD"), ("f4", "DDDDPD"), ("f16", "DDDDPD"), ("f20", "DDDDPD"),
-           ("f18", "DDDDDD"), ("f255", "DDDDDD"), ("d000080", "DDDPPD"), ("f" + "0" * 40 + "20", "DDDDPD"), ("d65535", "DDDDDD")]
+           ("f18", "DDDDDD"), ("f255", "DDDDDD"), ("d000080", "DDDPPD"),
+           ("f" + "0" * 40 + "20", "DDDDPD"), ("d65535", "DDDDDD")]
 
 
 def matches(program):
@@ -60,7 +62,8 @@ def matches(program):
         verdicts = " ".join({"P": "PASS", "D": "DROP"}[letter] for letter in letters) + " OTHER"
         yield match, compare(program, ["run", "program=table", f"table=0:{match}>0/P,0:*>0/D"], data, one_core(verdicts, 1))
     six = capture([udp6("2001:db8::1", ports=(1, 9)), tcp6("2001:db8::1", "2001:db8::2", (1, 9), 0xFF), udp("10.0.0.1")])
-    yield "IPv6", compare(program, ["plain", "program=table", "table=0:f255>0/P,0:d9>0/P,0:*>0/D"], six, plain("PASS PASS DROP", 2))
+    words = ["plain", "program=table", "table=0:f255>0/P,0:d9>0/P,0:*>0/D"]
+    yield "IPv6", compare(program, words, six, plain("PASS PASS DROP", 2))
 
 
 def knocks(*ports, make=udp, source="10.0.0.1"):
@@ -87,7 +90,7 @@ def rules(program):
             ("other destinations and ports", [SOURCE, udp("10.0.0.1", "10.9.9.9", (7, 8)), PING], "", "PASS DROP PASS", 1),
             ("no packet between", [SOURCE, arp(), SOURCE, arp(), SOURCE], "", "PASS OTHER DROP OTHER PASS", 1),
             ("one flow", [SOURCE, udp("10.0.0.3")] * 2, "flows=1", "PASS PASS PASS PASS", 1),
-            ("a source that is used stays", [SOURCE, udp("10.0.0.3"), SOURCE, udp("10.0.0.4"), SOURCE, udp("10.0.0.3")], "flows=2",
+            ("a source that is used stays", [udp(f"10.0.0.{host}") for host in (1, 3, 1, 4, 1, 3)], "flows=2",
              "PASS PASS DROP PASS PASS PASS", 2)):
         words = ["run", "program=table", toggle, *more.split()]
         yield name, compare(program, words, capture(frames), one_core(verdicts, flows))
@@ -122,8 +125,9 @@ def random_tables(program):
         words += ["ring=1"] if seed % 5 == 0 else []
         yield f"seed {seed}", compare(program, words, random_capture(seed, frames))
     for seed in range(8_100, 8_110):
-        yield f"plain, seed {seed}", compare(program, f"plain program=table {settings(seed, 'table')}".split(), random_capture(seed, 200))
-        words = f"load program=table {settings(seed, 'table')} frames={seed % 1_000} cores={1 + seed % 3} start={seed}"
+        words = f"program=table {settings(seed, 'table')}"
+        yield f"plain, seed {seed}", compare(program, f"plain {words}", random_capture(seed, 200))
+        words = f"load {words} frames={seed % 1_000} cores={1 + seed % 3} start={seed}"
         yield f"load, seed {seed}", compare(program, words)
 
 

@@ -271,8 +271,8 @@ def foreign_operands(program):
 
 # One fault of each kind that a word may have under `run program=ddos`, with its cause.
 FAULTS = [("-v", "NoEquals"), ("", "NoEquals"), ("color=red", "UnknownName"), ("=", "UnknownName"), ("rate=5", "NotHere"),
-          ("frames=5", "NotHere"), ("idle=x", "NotHere"), ("first=heavy", "NotHere"), ("table=x", "NotHere"), ("program=ddos", "Twice"), ("program=dns", "Twice"),
-          ("threshold=", "Value"),
+          ("frames=5", "NotHere"), ("idle=x", "NotHere"), ("first=heavy", "NotHere"), ("table=x", "NotHere"),
+          ("program=ddos", "Twice"), ("program=dns", "Twice"), ("threshold=", "Value"),
           ("flows=x", "Value"), ("threads=maybe", "Value"), ("cores=17", "Range"), ("ring=0", "Range"), ("history=65", "Range"),
           ("drop=1,,2", "Drop Empty at 2"), ("drop=2x", "Drop Digit at 0"), ("drop=1,0", "Drop Zero at 2"),
           ("drop=1000000001", "Drop TooLarge at 0"), ("drop=7-3", "Drop Range at 0")]
@@ -360,7 +360,8 @@ NUMBERS = ["0", "1", "2", "7", "16", "17", "64", "65", "007", "0" * 30 + "3", "4
 TEXTS = ["", "x", "-1", "1x", " 1", "1=1", "yes", "no", "YES", "1,2,3", "0,1,2", "1,2", "0,x,1", "80,443,65536"]
 LISTS = ["1", "1,2", "2-4", "1-9/3", "1,,2", "0", "3-1", "1-", "1/2", "00002-4/01", "1000000000", "1000000001", "2,0,x"]
 NAMES = [*OWN, "dns", "chain", "table", "", "ddos "]
-TABLES = ["0:*>0/P", "0:t>3/D,0:*>0/P,3:*>3/D", "0:u>1/P,0:*>0/D,1:*>0/P", "", "x", "0:*>0/P,", "16:*>0/P", "0:t>0/P", "0:*>4/P"]
+TABLES = ["0:*>0/P", "0:t>3/D,0:*>0/P,3:*>3/D", "0:u>1/P,0:*>0/D,1:*>0/P", "", "x", "0:*>0/P,", "16:*>0/P", "0:t>0/P",
+          "0:*>4/P"]
 VALUES = {"drop": LISTS, "program": NAMES, "first": NAMES, "second": NAMES, "table": TABLES}
 RANDOM_LISTS = 600
 
