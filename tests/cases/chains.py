@@ -5,7 +5,7 @@ from running import compare, difference, outcome
 from traffic import PAIRS, capture as random_capture, drop_list, settings
 
 from .agreement import again
-from .known import ACK, FOUR, HEAVY, PASSING, RST, SOURCE, STATES, SYN, SYN_ACK, one_core, plain, whole
+from .known import ACK, FOUR, HEAVY, PASSING, RST, SOURCE, STATES, SYN, SYN_ACK, one_core, plain, timed, whole
 
 STOPPING = {"ddos": "DROP", "heavy": "HEAVY", "bucket": "DROP", "knock": "DROP"}
 
@@ -26,10 +26,11 @@ def chains(program):
     yield "a lost packet is counted by neither", compare(program, f"{words} drop=3", FOUR, lost)
     known = one_core("STOPPED OTHER", 1, behind(PASSING))
     yield "OTHER passes", compare(program, "run program=chain first=knock second=ddos", capture([SOURCE, arp()]), known)
-    # Heavy has 28, 56 and 84 bytes of the flow; without the flood it would have 112 at the fourth packet.
-    missed = one_core("PASS PASS PASS STOPPED STOPPED", 2, behind(HEAVY))
+    # The flow has 28 bytes, and 56 and 84 at its next packets that the bucket lets pass.
+    missed = timed([SOURCE] * 4, [0, 0, 1_000_000, 2_000_000])
     yield "the second doesn't count what is stopped", compare(
-        program, "run program=chain first=ddos second=heavy threshold=3 bytes=85", capture([SOURCE] * 5), missed)
+        program, "run program=chain first=bucket second=heavy rate=1 burst=1 bytes=60", missed,
+        one_core("PASS STOPPED PASS HEAVY", 2, behind(HEAVY)))
     knocks = [udp("10.0.0.1", ports=(40_000, port)) for port in (7_000, 8_000, 9_000)]
     yield "the first steps over what it stops", compare(
         program, "run program=chain first=knock second=ddos threshold=1", capture([*knocks, SOURCE, SOURCE]),
