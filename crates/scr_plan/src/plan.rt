@@ -5,18 +5,18 @@ ghost use Rattle.scr_plan.specs.Kept.{carries_to};
 ghost use Rattle.scr_plan.specs.FinalEntry.{final_entry};
 
 use crate::carrying::core_of;
-use crate::drops::Drops;
+use crate::link::Link;
 use scr_base::Row;
 use std::marker::Model;
 
 /// What a run is made of: the rows of its packets, the cores, how many earlier packets a frame carries besides its own,
-/// and the frames that are dropped.
+/// and the link that the frames go over.
 #[derive(Debug, Drop)]
 pub struct RunPlan {
     rows: Vec<Row>,
     cores: u32,
     history: u32,
-    drops: Drops,
+    link: Link,
 }
 
 impl Model for RunPlan {
@@ -26,20 +26,20 @@ impl Model for RunPlan {
       rows = plan.rows.items;
       cores = plan.cores;
       history = plan.history;
-      drops = plan.drops;
+      link = plan.link;
     } };
 
     ghost invariant = { λ plan. IsPlan (record {
       rows = plan.rows.items;
       cores = plan.cores;
       history = plan.history;
-      drops = plan.drops;
+      link = plan.link;
     }) };
 }
 
 impl RunPlan {
     /// The plan with these parts. Row 1 stands first.
-    pub fn make(rows: Vec<Row>, cores: u32, history: u32, drops: Drops) -> Self
+    pub fn make(rows: Vec<Row>, cores: u32, history: u32, link: Link) -> Self
         requires few_rows { length rows.items ≤ most_packets }
         requires a_core { 1 ≤ cores }
         requires few_cores { cores ≤ most_cores }
@@ -47,14 +47,14 @@ impl RunPlan {
         ensures rows { result.rows ≡ rows.items }
         ensures cores { result.cores ≡ cores }
         ensures history { result.history ≡ history }
-        ensures drops { result.drops ≡ drops }
+        ensures link { result.link ≡ link }
         ensures ranges { IsPlan result }
     {
         RunPlan {
             rows,
             cores,
             history,
-            drops,
+            link,
         }
     }
 
@@ -82,12 +82,12 @@ impl RunPlan {
         self.history
     }
 
-    /// The frames that are dropped.
-    pub fn drops(&self) -> &Drops
-        ensures drops { result.now ≡ self.now.drops }
+    /// What lies between the sequencer and the cores.
+    pub fn link(&self) -> &Link
+        ensures link { result.now ≡ self.now.link }
         ensures ranges { IsPlan self.now }
     {
-        &self.drops
+        &self.link
     }
 
     /// Whether a frame that is delivered to this core carries packet p.
@@ -97,9 +97,10 @@ impl RunPlan {
         ensures answer { result ≡ carries_to self.now core p }
         ensures ranges { IsPlan self.now }
     {
-        let last = (self.rows.len() as u32).min(p + self.history);
+        let count = self.rows.len() as u32;
+        let last = count.min(p + self.history);
         for frame in p..last + 1 {
-            if core_of(frame, self.cores) == core && !self.drops.has(frame) {
+            if core_of(frame, self.cores) == core && self.link.delivered(self.cores, count, frame) {
                 return true;
             }
         }

@@ -23,5 +23,5 @@ mod sequencer;
 #[cfg(test)]
 mod tests;
 
-pub use outgoing::Outgoing;
-pub use sequencer::Sequencer;
+pub use outgoing::{Arriving, Outgoing};
+pub use sequencer::{Rest, Sequencer};
