@@ -117,7 +117,7 @@ impl Link {
         ensures answer { result ≡ loses self.now n }
         ensures ranges { IsLink self.now }
     {
-        self.drops.has(n) || self.missing.contains(&n)
+        self.drops.has(n) || self.missing.binary_search(&n).is_ok()
     }
 
     // By how many steps frame n comes late, where it arrives.
