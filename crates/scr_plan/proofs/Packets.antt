@@ -1,5 +1,5 @@
 -- Who carries what, and which packets are kept.
-use Rattle.std.proofs.Common.{◌≡◌, ℕ, ◌+◌, ◌<◌, ◌≤◌, [], Bool, true, false, ◌&&◌, arith, refl}
+use Rattle.std.proofs.Common.{◌≡◌, ℕ, ◌+◌, ◌<◌, ◌≤◌, Bool, true, false, ◌&&◌, arith, refl}
 use Rattle.std.specs.List.{list_any, range_with_len}
 use Rattle.std.specs.Bool.{Decides}
 use Rattle.std.proofs.lemmas.Bool.{false_from_ne_true}
@@ -8,7 +8,7 @@ use Rattle.scr_plan.specs.Plan.{Plan, IsPlan, frame_count}
 use Rattle.scr_plan.specs.Delivered.{delivers, delivers_to, core_number}
 use Rattle.scr_plan.specs.Kept.{Carries, IsKept, IsCarried, carries, keeps, carries_to}
 use Rattle.scr_plan.proofs.FromOne.{IsSome, Decides-any}
-use Rattle.scr_plan.proofs.Delivering.{Decides-delivered, Decides-delivered_to, delivered-no_drops}
+use Rattle.scr_plan.proofs.Delivering.{Decides-delivered, Decides-delivered_to}
 
 pub Decides-carries : (history n p : ℕ) → Decides (carries history n p) (Carries history n p)
 Decides-carries history n p = (
@@ -63,10 +63,6 @@ pub carried-own : (plan : Plan) (core n : ℕ) → delivers_to plan core n ≡ t
 carried-own plan core n is =
     let it = (Decides-delivered_to plan core n).0 is in
     (Decides-carried plan core n).1 (record { frame = n; is_delivered = it; carries_it = Carries-own plan.history n it.is.from })
-
--- with no drops every packet is kept
-pub kept-no_drops : (plan : Plan) (p : ℕ) → plan.drops ≡ [] → 1 ≤ p → p ≤ frame_count plan → keeps plan p ≡ true
-kept-no_drops plan p none from to = kept-delivered plan p (delivered-no_drops plan p none from to)
 
 -- what a core's own frames carry is kept
 pub kept-carried : (plan : Plan) (core p : ℕ) → carries_to plan core p ≡ true → keeps plan p ≡ true

@@ -1,9 +1,13 @@
 pub mod Limits
 pub mod Drops
 pub mod Spelling
+pub mod Delays
+pub mod DelaySpelling
+pub mod Link
 pub mod Plan
-pub mod Delivered
 pub mod Order
+pub mod Delivered
+pub mod Overtaken
 pub mod Kept
 pub mod Counts
 pub mod FinalEntry

@@ -1,17 +1,16 @@
--- The plan of a run: the rows of its packets, the cores, the history and the drop list. Packet p has row p, from 1 on,
--- and frame p is the frame of packet p.
+-- The plan of a run: the rows of its packets, the cores, the history and the link. Packet p has row p, from 1 on, and
+-- frame p is the frame of packet p.
 use Rattle.std.specs.Prelude.{◌≡◌, ℕ, ◌-◌, ◌≤◌, List, length, Option}
 use Rattle.std.specs.List.{slice_get}
 use Rattle.scr_base.specs.declared.row.Row.{Row}
 use Rattle.scr_plan.specs.Limits.{most_packets, most_cores, longest_history}
-use Rattle.scr_plan.specs.Drops.{IsDropList}
-use Rattle.scr_plan.specs.declared.drops.DropRange.{DropRange}
+use Rattle.scr_plan.specs.Link.{Link, IsLink}
 
 pub record Plan : Type 0 where
   pub rows : List Row
   pub cores : ℕ
   pub history : ℕ
-  pub drops : List DropRange
+  pub link : Link
 
 -- what is true of every plan
 pub record IsPlan (plan : Plan) : Type 0 where
@@ -19,7 +18,7 @@ pub record IsPlan (plan : Plan) : Type 0 where
   pub a_core : 1 ≤ plan.cores
   pub few_cores : plan.cores ≤ most_cores
   pub short_history : plan.history ≤ longest_history
-  pub drop_list : IsDropList plan.drops
+  pub is_link : IsLink plan.link
 
 -- how many packets there are, and as many frames
 abbrev pub frame_count : Plan → ℕ
@@ -29,8 +28,8 @@ frame_count plan = length plan.rows
 abbrev pub row_of : Plan → ℕ → Option Row
 row_of plan p = slice_get plan.rows (p - 1)
 
--- the plan has these, whatever its rows are
-pub record HasParts (plan : Plan) (drops : List DropRange) (history frames : ℕ) : Type 0 where
-  pub drops_are : plan.drops ≡ drops
-  pub history_is : plan.history ≡ history
+-- the plan has these, whatever its rows and its history are
+pub record HasParts (plan : Plan) (link : Link) (cores frames : ℕ) : Type 0 where
+  pub link_is : plan.link ≡ link
+  pub cores_are : plan.cores ≡ cores
   pub frames_are : frame_count plan ≡ frames

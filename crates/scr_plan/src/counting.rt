@@ -5,7 +5,7 @@ ghost use Rattle.scr_plan.specs.Kept.{first_carried};
 ghost use Rattle.scr_plan.specs.Counts.{plan_counts};
 
 use crate::carrying::{carried_from, core_of};
-use crate::drops::Drops;
+use crate::link::Link;
 
 /// What one core does in a run.
 #[derive(Clone, Copy, Debug, PartialEq, Eq)]
@@ -47,13 +47,13 @@ impl Tally {
 }
 
 /// The counts of a core among k cores, over t frames, at a history of h packets.
-pub fn counts(drops: &Drops, k: u32, h: u32, t: u32, core: u32) -> CoreCounts
+pub fn counts(link: &Link, k: u32, h: u32, t: u32, core: u32) -> CoreCounts
     requires a_core { 1 ≤ k }
     requires few_cores { k ≤ most_cores }
     requires short_history { h ≤ longest_history }
     requires few_frames { t ≤ most_packets }
     requires of_the_cores { core < k }
-    ensures { (plan : Plan) → HasParts plan drops.now h t → plan.cores ≡ k → result ≡ plan_counts plan core }
+    ensures { (plan : Plan) → HasParts plan link.now k t → plan.history ≡ h → result ≡ plan_counts plan core }
 {
     let none = Tally {
         frames: 0,
@@ -62,7 +62,7 @@ pub fn counts(drops: &Drops, k: u32, h: u32, t: u32, core: u32) -> CoreCounts
     };
     let (mut own, mut all) = (none, none);
     for frame in 1..t + 1 {
-        if drops.has(frame) {
+        if !link.delivered(k, t, frame) {
             continue;
         }
         all.add(frame, h);

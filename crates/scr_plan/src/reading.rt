@@ -8,10 +8,10 @@ use scr_base::{NumberError, OutOfMemory, read_number};
 use std::alloc::{AllocFailed, Global};
 
 /// The greatest number that a range may name.
-const GREATEST: u64 = 1_000_000_000;
+pub const GREATEST: u64 = 1_000_000_000;
 
 /// How many ranges a list may have.
-const MOST: usize = 256;
+pub const MOST: usize = 256;
 
 /// Why a piece of a drop list is refused. The first that holds is the answer.
 #[derive(Clone, Copy, Debug, PartialEq, Eq)]
@@ -91,7 +91,7 @@ fn read_piece(piece: &[u8], before: usize) -> Result<DropRange, DropCause>
 }
 
 // What stands in front of the first of these bytes, and what stands behind it.
-fn split_once(text: &[u8], mark: u8) -> Option<(&[u8], &[u8])>
+pub fn split_once(text: &[u8], mark: u8) -> Option<(&[u8], &[u8])>
     ensures { MatchOption result (has_byte mark text.now ≡ false) (λ parts. IsCut mark text.now parts.0.now parts.1.now) }
 {
     let at = text.iter().position(|byte| *byte == mark)?;

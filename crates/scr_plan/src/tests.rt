@@ -1,8 +1,10 @@
 use crate::{
-    CoreCounts, DropCause, DropError, Drops, RunPlan, carried_from, core_of, counts, kept,
+    CoreCounts, DelayCause, DelayError, Delays, DropCause, DropError, Drops, Fate, Link, RunPlan,
+    carried_from, core_of, counts, kept,
 };
 use scr_base::{OutOfMemory, Row};
 use std::alloc::{AllocError, Global};
+use std::test::Fail;
 
 const NINES: &[u8] = b"9999999999999999999999999999999999999999";
 
@@ -113,12 +115,12 @@ fn carries_as_far_back_as_the_history(rt: HostRuntime) -> Result<(), DropError> 
     assert_eq!(rt; carried_from(5, 0), 5);
     assert_eq!(rt; carried_from(65, 64), 1);
     assert_eq!(rt; carried_from(66, 64), 2);
-    let up_to_64 = Drops::read(rt.alloc(), b"1-64")?;
-    let up_to_65 = Drops::read(rt.alloc(), b"1-65")?;
-    assert!(rt; kept(&up_to_64, 1, 64, 200));
-    assert!(rt; !kept(&up_to_65, 1, 64, 200));
-    assert!(rt; kept(&up_to_65, 2, 64, 200));
-    assert!(rt; !kept(&up_to_64, 1, 64, 64));
+    let up_to_64 = Link::dropping(rt.alloc(), Drops::read(rt.alloc(), b"1-64")?);
+    let up_to_65 = Link::dropping(rt.alloc(), Drops::read(rt.alloc(), b"1-65")?);
+    assert!(rt; kept(&up_to_64, 3, 1, 64, 200));
+    assert!(rt; !kept(&up_to_65, 3, 1, 64, 200));
+    assert!(rt; kept(&up_to_65, 3, 2, 64, 200));
+    assert!(rt; !kept(&up_to_64, 3, 1, 64, 64));
     Ok(())
 }
 
@@ -136,12 +138,12 @@ struct Run<'a> {
 }
 
 // The counts of a core, where the numbers are in range.
-fn counts_within(drops: &Drops, run: &Run, core: u32) -> Option<CoreCounts> {
+fn counts_within(link: &Link, run: &Run, core: u32) -> Option<CoreCounts> {
     let fits = run.cores <= 16 && run.history <= 64 && run.frames <= 1_000_000;
     if !fits || core >= run.cores {
         return None;
     }
-    Some(counts(drops, run.cores, run.history, run.frames, core))
+    Some(counts(link, run.cores, run.history, run.frames, core))
 }
 
 const IDLE: (u32, u32, u32, u32) = (0, 0, 3, 0);
@@ -264,7 +266,7 @@ const RUNS: [Run; 9] = [
 #[test]
 fn counts_of_runs(rt: HostRuntime) -> Result<(), DropError> {
     for run in RUNS {
-        let drops = Drops::read(rt.alloc(), run.drops)?;
+        let link = Link::dropping(rt.alloc(), Drops::read(rt.alloc(), run.drops)?);
         let mut frames = 0u32;
         for (core, line) in (0..run.cores).zip(run.lines) {
             let (delivered, carried, recovered, skipped) = *line;
@@ -275,7 +277,7 @@ fn counts_of_runs(rt: HostRuntime) -> Result<(), DropError> {
                 skipped,
             };
             assert_eq!(rt;
-                counts_within(&drops, &run, core),
+                counts_within(&link, &run, core),
                 Some(want),
                 "at core {core}"
             );
@@ -299,10 +301,12 @@ fn a_plan_has_its_parts(rt: HostRuntime) -> Result<(), DropError> {
         w6: 7,
     };
     let rows = vec![in rt.alloc(); row; 4].expect(&rt, "memory");
-    let plan = RunPlan::make(rows, 2, 1, Drops::read(rt.alloc(), b"2")?);
+    let link = Link::dropping(rt.alloc(), Drops::read(rt.alloc(), b"2")?);
+    let plan = RunPlan::make(rows, 2, 1, link);
     assert_eq!(rt; plan.rows(), &[row, row, row, row][..]);
     assert_eq!(rt; (plan.cores(), plan.history()), (2, 1));
-    assert!(rt; plan.drops().has(2) && !plan.drops().has(3));
+    assert_eq!(rt; plan.link().fate(2), Fate::Lost);
+    assert_eq!(rt; plan.link().fate(3), Fate::Once { delay: 0 });
     for (p, first, second) in [
         (1, true, false),
         (2, true, false),
@@ -313,5 +317,95 @@ fn a_plan_has_its_parts(rt: HostRuntime) -> Result<(), DropError> {
         assert_eq!(rt; plan.final_entry(1, p).is_some(), second, "at {p}");
     }
     assert_eq!(rt; plan.final_entry(0, 3), Some(row));
+    Ok(())
+}
+
+// Texts of delays with the cause and the place of their refusal.
+const DELAY_REFUSALS: [(&[u8], DelayCause, u64); 17] = [
+    (b",", DelayCause::Empty, 0),
+    (b"1:2,", DelayCause::Empty, 4),
+    (b"1", DelayCause::Digit, 0),
+    (b":", DelayCause::Digit, 0),
+    (b"1:", DelayCause::Digit, 0),
+    (b":1", DelayCause::Digit, 0),
+    (b"1:2:3", DelayCause::Digit, 0),
+    (b"1-2:3", DelayCause::Digit, 0),
+    (b"1:0", DelayCause::Zero, 0),
+    (b"3:4,0:1001", DelayCause::Zero, 4),
+    (b"0:x", DelayCause::Digit, 0),
+    (b"1:1001", DelayCause::TooLarge, 0),
+    (b"1000000001:1", DelayCause::TooLarge, 0),
+    (b"1:2,1:3", DelayCause::Twice, 4),
+    (b"7:1,007:2", DelayCause::Twice, 4),
+    (b"7:1,7:1001", DelayCause::TooLarge, 4),
+    (b"7:1,8:1,,7:1", DelayCause::Empty, 8),
+];
+
+#[test]
+fn refuses_delays_by_cause_and_place(rt: HostRuntime) -> Result<(), OutOfMemory> {
+    for (text, cause, place) in DELAY_REFUSALS {
+        let refused = match Delays::read(rt.alloc(), text) {
+            Ok(_) => None,
+            Err(DelayError::Refused { cause, place }) => Some((cause, place)),
+            Err(DelayError::OutOfMemory(want)) => return Err(want),
+        };
+        assert_eq!(rt; refused, Some((cause, place)), "at {text:?}");
+    }
+    Ok(())
+}
+
+// The link that these texts spell.
+fn link_of(alloc: Global, drops: &[u8], repeats: &[u8], delays: &[u8]) -> Option<Link> {
+    let drops = Drops::read(alloc, drops).ok()?;
+    let repeats = Drops::read(alloc, repeats).ok()?;
+    Some(Link::make(alloc, drops, repeats, Delays::read(alloc, delays).ok()?))
+}
+
+#[test]
+fn tells_what_becomes_of_a_frame(rt: HostRuntime) -> Result<(), Fail> {
+    assert_eq!(rt; Delays::none(rt.alloc()).of(1), 0);
+    let link = link_of(rt.alloc(), b"3,5", b"4-6", b"2:9,5:1,6:1000").ok_or("a link")?;
+    for (n, fate) in [
+        (1, Fate::Once { delay: 0 }),
+        (2, Fate::Once { delay: 9 }),
+        (3, Fate::Lost),
+        (4, Fate::Twice { delay: 0 }),
+        (5, Fate::Lost),
+        (6, Fate::Twice { delay: 1000 }),
+    ] {
+        assert_eq!(rt; link.fate(n), fate, "at {n}");
+    }
+    Ok(())
+}
+
+// Delays, the cores, the frames, and which of them are not delivered.
+const LATE: [(&[u8], &[u8], u32, u32, &[u32]); 10] = [
+    (b"", b"1:3", 2, 4, &[1]),
+    (b"", b"1:1", 2, 4, &[]),
+    (b"", b"1:2", 2, 4, &[1]),
+    (b"3", b"1:3", 2, 4, &[]),
+    (b"", b"256:1", 2, 600, &[256]),
+    (b"", b"255:1", 2, 600, &[]),
+    // The end comes behind what is late, and no beacon has its number.
+    (b"", b"256:1000", 2, 256, &[]),
+    (b"", b"255:1000", 1, 256, &[255]),
+    // Of two late frames of one step the earlier one comes first.
+    (b"", b"1:2,2:1", 1, 4, &[1, 2]),
+    (b"3", b"1:2,2:1", 1, 4, &[]),
+];
+
+#[test]
+fn late_frames_that_are_overtaken_are_lost(rt: HostRuntime) -> Result<(), Fail> {
+    for (drops, delays, cores, frames, lost) in LATE {
+        let link = link_of(rt.alloc(), drops, b"", delays).ok_or("a link")?;
+        for n in 1..=frames {
+            let goes = link.fate(n) != Fate::Lost && !lost.contains(&n);
+            assert_eq!(rt;
+                link.delivered(cores, frames, n),
+                goes,
+                "at {n} of {delays:?}"
+            );
+        }
+    }
     Ok(())
 }

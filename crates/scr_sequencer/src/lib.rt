@@ -18,10 +18,11 @@
 //! that it carries is copied once.
 #![tactic(auto)]
 
+mod holding;
 mod outgoing;
 mod sequencer;
 #[cfg(test)]
 mod tests;
 
-pub use outgoing::Outgoing;
-pub use sequencer::Sequencer;
+pub use outgoing::{Arriving, Outgoing};
+pub use sequencer::{Rest, Sequencer};

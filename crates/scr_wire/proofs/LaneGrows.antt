@@ -4,27 +4,12 @@ use Rattle.std.specs.List.{flat_map, range_with_len}
 use Rattle.std.proofs.lemmas.List.{map-append, length-append, append-nil, get_or-append-add, get_or_append_left}
 use Rattle.std.proofs.Math.Seq.{get_or-append_seam}
 use Rattle.scr_plan.specs.Plan.{Plan, frame_count}
-use Rattle.scr_plan.specs.Delivered.{delivers_to}
-use Rattle.scr_plan.specs.Order.{Item, has_beacon, items_at, items_to}
-use Rattle.scr_plan.specs.Order as item
+use Rattle.scr_plan.specs.Order.{items_at, items_to}
 use Rattle.scr_plan.proofs.FromOne.{lists-suc}
 use Rattle.scr_plan.proofs.OrderGrows.{items_to-zero, items_to-suc, items_to-append}
 use Rattle.scr_wire.specs.declared.message.Message.{Message}
-use Rattle.scr_wire.specs.declared.message.Message.TheVariants.{Beacon, End}
-use Rattle.scr_wire.specs.Lane.{frame, message_of, beacon_before, frame_to, added, lane_so_far, lane}
-
--- the messages that number n adds
-one_if : (plan : Plan) (b d : Bool) (n : ℕ)
-    → map (message_of plan) (cond b (item.Beacon (n - 1) ∷ []) [] ++ cond d (item.Frame n ∷ []) [])
-    ≡ cond b (Beacon (n - 1) ∷ []) [] ++ cond d (frame plan n ∷ []) []
-one_if plan true true n = refl
-one_if plan true false n = refl
-one_if plan false true n = refl
-one_if plan false false n = refl
-
-pub added-items : (plan : Plan) (core n : ℕ) → map (message_of plan) (items_at plan core n) ≡ added plan core n
-unfolding beacon_before frame_to
-added-items plan core n = one_if plan (has_beacon n) (delivers_to plan core n) n
+use Rattle.scr_wire.specs.declared.message.Message.TheVariants.{End}
+use Rattle.scr_wire.specs.Lane.{message_of, added, lane_so_far, last_step, lane}
 
 -- no number adds nothing
 pub lane_so_far-zero : (plan : Plan) (core : ℕ) → lane_so_far plan core 0 ≡ []
@@ -37,7 +22,6 @@ unfolding lane_so_far
 lane_so_far-suc plan core n =
     ap (map (message_of plan)) (items_to-suc plan core n)
     ∙ map-append (message_of plan) (items_to plan core n) (items_at plan core (suc n))
-    ∙ ap (λ (x : List Message). lane_so_far plan core n ++ x) (added-items plan core (suc n))
 
 -- number by number
 pub lane_so_far-numbers : (plan : Plan) (core n : ℕ) → lane_so_far plan core n ≡ flat_map (added plan core) (range_with_len 1 n)
@@ -49,20 +33,8 @@ lane_so_far-numbers plan core (suc n) =
 
 -- ---- lengths
 
-length-one_if : (b : Bool) (m : Message) → length (cond b (m ∷ []) []) ≡ cond b 1 0
-length-one_if true m = refl
-length-one_if false m = refl
-
-pub length-beacon_before : (n : ℕ) → length (beacon_before n) ≡ cond (has_beacon n) 1 0
-unfolding beacon_before
-length-beacon_before n = length-one_if (has_beacon n) (Beacon (n - 1))
-
-pub length-frame_to : (plan : Plan) (core n : ℕ) → length (frame_to plan core n) ≡ cond (delivers_to plan core n) 1 0
-unfolding frame_to
-length-frame_to plan core n = length-one_if (delivers_to plan core n) (frame plan n)
-
-pub length-lane : (plan : Plan) (core : ℕ) → length (lane plan core) ≡ length (lane_so_far plan core (frame_count plan)) + 1
-length-lane plan core = length-append (lane_so_far plan core (frame_count plan)) (End (frame_count plan) ∷ [])
+pub length-lane : (plan : Plan) (core : ℕ) → length (lane plan core) ≡ length (lane_so_far plan core (last_step plan)) + 1
+length-lane plan core = length-append (lane_so_far plan core (last_step plan)) (End (frame_count plan) ∷ [])
 
 -- ---- places
 
@@ -77,10 +49,10 @@ so_far-append plan core n k =
     ∙ map-append (message_of plan) (items_to plan core n) (flat_map (items_at plan core) (range_with_len (1 + n) k))
 
 -- what the numbers up to n add stands in front of the lane
-pub lane_front : (plan : Plan) (core n : ℕ) → n ≤ frame_count plan → (rest : List Message) × (lane plan core ≡ lane_so_far plan core n ++ rest)
+pub lane_front : (plan : Plan) (core n : ℕ) → n ≤ last_step plan → (rest : List Message) × (lane plan core ≡ lane_so_far plan core n ++ rest)
 lane_front plan core n le =
-    let k = frame_count plan - n in
-    let all : frame_count plan ≡ n + k = omega arith in
+    let k = last_step plan - n in
+    let all : last_step plan ≡ n + k = omega arith in
     let last : List Message = End (frame_count plan) ∷ [] in (
       behind plan core n k ++ last,
       ap (λ (x : ℕ). lane_so_far plan core x ++ last) all
@@ -89,7 +61,7 @@ lane_front plan core n le =
     )
 
 -- the messages that a number adds stand behind those of the numbers before it
-pub lane_at : (plan : Plan) (core n j : ℕ) (d : Message) → n < frame_count plan → j < length (added plan core (suc n))
+pub lane_at : (plan : Plan) (core n j : ℕ) (d : Message) → n < last_step plan → j < length (added plan core (suc n))
     → get_or (lane plan core) (length (lane_so_far plan core n) + j) d ≡ get_or (added plan core (suc n)) j d
 lane_at plan core n j d lt within =
     let front = lane_front plan core (suc n) (omega arith) in
@@ -101,5 +73,5 @@ lane_at plan core n j d lt within =
     ∙ get_or_append_left new front.0 d j within
 
 -- the end stands last
-pub lane_at_end : (plan : Plan) (core : ℕ) (d : Message) → get_or (lane plan core) (length (lane_so_far plan core (frame_count plan))) d ≡ End (frame_count plan)
-lane_at_end plan core d = get_or-append_seam (lane_so_far plan core (frame_count plan)) (End (frame_count plan)) [] d
+pub lane_at_end : (plan : Plan) (core : ℕ) (d : Message) → get_or (lane plan core) (length (lane_so_far plan core (last_step plan))) d ≡ End (frame_count plan)
+lane_at_end plan core d = get_or-append_seam (lane_so_far plan core (last_step plan)) (End (frame_count plan)) [] d

@@ -5,4 +5,4 @@ use Rattle.scr_plan.proofs.carrying.kept.Given as goal
 
 abbrev pub invariant-loop-frame : goal.invariant-loop-frame
 invariant-loop-frame l =
-    (plan : Plan) → HasParts plan l.drops l.h l.t → (n : ℕ) → l.p ≤ n → n < l.frame → delivers plan n ≡ false
+    (plan : Plan) → HasParts plan l.link l.k l.t → (n : ℕ) → l.p ≤ n → n < l.frame → delivers plan n ≡ false
