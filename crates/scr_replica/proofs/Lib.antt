@@ -7,6 +7,8 @@ pub mod Found
 pub mod Taking
 pub mod InOrder
 pub mod OneCoreOfAll
+pub mod LaneItems
+pub mod Taken
 pub mod Deciding
 pub mod Undivided
 pub mod Counted

@@ -1,3 +1,4 @@
 pub mod OneCore
 pub mod Entries
+pub mod Told
 pub mod Answers

@@ -30,6 +30,7 @@ mod entry;
 mod filling;
 mod gathered;
 mod known;
+mod listener;
 mod laws;
 mod merging;
 mod phases;
