@@ -1,29 +1,17 @@
 -- Which frames of a lane are taken: just those that are delivered, each once. And what those before a place decide.
-use Rattle.std.proofs.Common.{◌≡◌, ℕ, suc, ◌+◌, ◌<◌, ◌≤◌, ◌⊎◌, Bool, true, false, cond, ◌&&◌, not, List, [], ◌∷◌, ◌++◌, length, get_or, take, inl, inr, refl, sym, ap, ◌∙◌, arith, eqb}
-use Rattle.std.specs.List.{AllByRecursion, list_all, list_any, before_first}
-use Rattle.std.specs.Prelude.{All}
+use Rattle.std.proofs.Common.{◌≡◌, ℕ, suc, ◌+◌, ◌<◌, ◌≤◌, ◌⊎◌, Bool, true, false, ◌&&◌, not, List, [], ◌∷◌, ◌++◌, length, get_or, take, inl, inr, refl, sym, ap, ◌∙◌, arith, eqb}
+use Rattle.std.specs.List.{list_all, list_any, before_first}
 use Rattle.std.proofs.lemmas.Bool.{cases_lt}
 use Rattle.std.proofs.lemmas.Bool.Decides.{nat_tests}
-use Rattle.std.proofs.lemmas.List.Elements.{recursion_from_All}
-use Rattle.scr_plan.specs.Delays.{IsDelay, delay_of, greatest_delay}
-use Rattle.scr_plan.specs.declared.delays.FrameDelay.{FrameDelay}
+use Rattle.scr_plan.specs.Delays.{greatest_delay}
 use Rattle.scr_plan.specs.Plan.{Plan, IsPlan, frame_count}
 use Rattle.scr_plan.specs.Order.{Item, sends, comes_at, order}
 use Rattle.scr_plan.specs.Order as item
 use Rattle.scr_plan.specs.Delivered.{core_number, number_of, is_frame, ahead_of, delivers, delivers_to}
+use Rattle.scr_plan.proofs.FrameDelays.{delay_of-near}
 use Rattle.scr_plan.proofs.Delivering.{Decides-delivered_to, delivers-sends, delivered_to-own}
 use Rattle.scr_plan.proofs.Steps.{sends-within, Each-items_to, Each-beacon_at, of_items_to-frame}
 use Rattle.scr_replica.proofs.LaneItems.{each-at, stands-ahead, ahead-is, greatest, under, under-is, all-under, greatest-under, decided_from, has-decided, none-is, none-each}
-
--- no delay is above the greatest
-one-few : (b : Bool) (steps others : ℕ) → steps ≤ greatest_delay → others ≤ greatest_delay → cond b steps others ≤ greatest_delay
-one-few true steps others here there = here
-one-few false steps others here there = there
-
-delays-few : (delays : List FrameDelay) (n : ℕ) → AllByRecursion IsDelay delays → delay_of delays n ≤ greatest_delay
-unfolding delay_of
-delays-few [] n each = omega arith
-delays-few (it ∷ delays) n each = one-few (eqb it.frame n) it.steps (delay_of delays n) each.0.steps_above (delays-few delays n each.1)
 
 by_cases : (b : Bool) → (b ≡ true) ⊎ (b ≡ false)
 by_cases true = inl refl
@@ -63,7 +51,7 @@ module _ (plan : Plan) (core : ℕ) where
   stands n is_plan goes =
       let is = (Decides-delivered_to plan core n).0 goes in
       let sent = delivers-sends plan n is.is.delivered in
-      let near = delays-few plan.link.delays n (recursion_from_All IsDelay plan.link.delays is_plan.is_link.delay_list.each) in
+      let near = delay_of-near plan.link.delays n is_plan.is_link.delay_list.each in
       elim (by_cases (list_any (is_frame n) (order plan core))) as (λ _. list_any (is_frame n) (order plan core) ≡ true) [
         | inl there ↦ there
         | inr none ↦ (
