@@ -1,8 +1,8 @@
 -- A list of delays, looked up frame by frame.
-use Rattle.std.proofs.Common.{◌≡◌, ℕ, zero, suc, ◌<◌, Bool, true, false, cond, ◌||◌, List, [], ◌∷◌, length, get_or, take, map, refl, ap, arith, eqb}
-use Rattle.std.specs.List.{list_any}
+use Rattle.std.proofs.Common.{◌≡◌, ℕ, zero, suc, ◌<◌, ◌≤◌, Bool, true, false, cond, ◌||◌, List, [], ◌∷◌, length, get_or, take, map, refl, ap, arith, eqb}
+use Rattle.std.specs.List.{All, list_any}
 use Rattle.std.proofs.lemmas.Bool.Decides.{nat_tests}
-use Rattle.scr_plan.specs.Delays.{delay_of}
+use Rattle.scr_plan.specs.Delays.{greatest_delay, IsDelay, delay_of}
 use Rattle.scr_plan.specs.declared.delays.FrameDelay.{FrameDelay}
 
 -- a search among the frames
@@ -32,3 +32,14 @@ delay_of-none [] n none = refl
 delay_of-none (it ∷ delays) n none =
     let both = neither (eqb it.frame n) (list_any (λ x. eqb x.frame n) delays) none in
     rw both.0 (delay_of-none delays n both.1)
+
+-- no delay is above the greatest
+pub delay_of-near : (delays : List FrameDelay) (n : ℕ) → All IsDelay delays → delay_of delays n ≤ greatest_delay
+unfolding delay_of
+delay_of-near [] n each = omega arith
+delay_of-near (it ∷ delays) n each =
+    by (eqb it.frame n) (each 0 it (omega arith)).steps_above (delay_of-near delays n (λ k d within. each (suc k) d (omega arith)))
+  where
+    by : (b : Bool) → it.steps ≤ greatest_delay → delay_of delays n ≤ greatest_delay → cond b it.steps (delay_of delays n) ≤ greatest_delay
+    by true here others = here
+    by false here others = others
