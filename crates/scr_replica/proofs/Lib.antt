@@ -1,7 +1,7 @@
 pub mod Lost
 pub mod Knowing
 pub mod Frames
-pub mod Passing
+pub mod Awaiting
 pub mod Packets
 pub mod Found
 pub mod Taking
