@@ -26,6 +26,18 @@ pub enum Fate {
     Twice { delay: u32 },
 }
 
+impl Fate {
+    /// By how many steps the frame comes later, or 0.
+    pub fn delay(self) -> u32
+        ensures { result ≡ delay_in self }
+    {
+        match self {
+            Fate::Lost => 0,
+            Fate::Once { delay } | Fate::Twice { delay } => delay,
+        }
+    }
+}
+
 /// What lies between the sequencer and the cores: which frames get lost, come twice, and come later.
 #[derive(Debug, Drop)]
 pub struct Link {

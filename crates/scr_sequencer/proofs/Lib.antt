@@ -1,2 +1,4 @@
+pub mod Rotating
 pub mod Following
+pub mod Adding
 pub mod WholeLane

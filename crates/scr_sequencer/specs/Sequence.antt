@@ -1,11 +1,12 @@
 -- What a sequencer keeps: how many cores there are, how many packets before its own a frame carries, how many rows were
 -- given, the last of them, as many as the next frames may carry, and the frames that it holds back for later steps.
-use Rattle.std.specs.Prelude.{◌≡◌, ℕ, ◌+◌, ◌≤◌, Bool, true, false, List, [], ◌∷◌, ◌++◌, length, min, drop, replicate, Option, Some, None, slice_index_or, ◌==◌, if◌then◌else◌}
-use Rattle.std.specs.List.{set}
+use Rattle.std.specs.Prelude.{◌≡◌, ℕ, ◌+◌, ◌≤◌, Bool, true, false, List, [], ◌∷◌, ◌++◌, length, min, drop, replicate, Option, Some, None, slice_index_or, slice_set, ◌==◌, if◌then◌else◌}
+use Rattle.std.specs.Option.{option_to_list}
 use Rattle.circular_buffer.specs.Buffer.{keep_last}
 use Rattle.scr_base.specs.declared.row.Row.{Row}
 use Rattle.scr_plan.specs.Limits.{most_packets, most_cores, longest_history}
 use Rattle.scr_plan.specs.Delays.{greatest_delay}
+use Rattle.scr_plan.specs.Link.{delay_in}
 use Rattle.scr_plan.specs.Order.{core_number}
 use Rattle.scr_plan.specs.declared.link.Fate.{Fate}
 use Rattle.scr_plan.specs.declared.link.Fate.TheVariants.{Lost, Once, Twice}
@@ -26,7 +27,7 @@ pub record Sequence : Type 0 where
   pub rows : List Row
   pub held : List (List Arriving)
 
--- for how many steps a sequencer holds frames
+-- for how many steps a sequencer holds frames; nothing is held for the last of them, which makes room for the next frame
 abbrev pub steps_ahead : ℕ
 steps_ahead = greatest_delay + 1
 
@@ -38,10 +39,15 @@ pub record IsSequence (s : Sequence) : Type 0 where
   pub few_rows : s.taken ≤ most_packets
   pub last_rows : length s.rows ≡ min s.taken (s.history + 1)
   pub steps : length s.held ≡ steps_ahead
+  pub last_step : slice_index_or s.held greatest_delay [] ≡ []
+
+-- no frame is held for any step
+unfoldable pub nothing_held : List (List Arriving)
+nothing_held = replicate steps_ahead []
 
 -- no row was given yet
 abbrev pub begun : (cores history : ℕ) → Sequence
-begun cores history = record { cores = cores; history = history; taken = 0; rows = []; held = replicate steps_ahead [] }
+begun cores history = record { cores = cores; history = history; taken = 0; rows = []; held = nothing_held }
 
 -- the rows that the next frame carries, its own last
 abbrev pub carried_next : Sequence → Row → List Row
@@ -58,22 +64,25 @@ arriving s row twice =
 
 -- a frame put behind those that are held for a step
 abbrev pub put : List (List Arriving) → (step : ℕ) → Arriving → List (List Arriving)
-put held step it = set held step (slice_index_or held step [] ++ it ∷ [])
+put held step it = slice_set held step (slice_index_or held step [] ++ it ∷ [])
 
--- the next frame where it comes in its turn, and what is held where it comes later
-abbrev pub in_turn : Sequence → Row → Fate → List Arriving
-in_turn s row Lost = []
-in_turn s row (Once delay) = if delay == 0 then arriving s row false ∷ [] else []
-in_turn s row (Twice delay) = if delay == 0 then arriving s row true ∷ [] else []
+-- the next frame, where it arrives
+abbrev pub next_frame : Sequence → Row → Fate → Option Arriving
+next_frame s row Lost = None
+next_frame s row (Once delay) = Some (arriving s row false)
+next_frame s row (Twice delay) = Some (arriving s row true)
 
-abbrev pub held_with : Sequence → Row → Fate → List (List Arriving)
-held_with s row Lost = s.held
-held_with s row (Once delay) = if delay == 0 then s.held else put s.held delay (arriving s row false)
-held_with s row (Twice delay) = if delay == 0 then s.held else put s.held delay (arriving s row true)
+-- the frame where it comes in its turn, and what is held where it comes so many steps later
+abbrev pub in_turn : (delay : ℕ) → Option Arriving → Option Arriving
+in_turn delay frame = if delay == 0 then frame else None
+
+abbrev pub held_with : List (List Arriving) → (delay : ℕ) → Option Arriving → List (List Arriving)
+held_with held delay None = held
+held_with held delay (Some it) = if delay == 0 then held else put held delay it
 
 -- what goes out at the next step: its own frame, and what is held for it
 abbrev pub due : Sequence → Row → Fate → List Arriving
-due s row fate = in_turn s row fate ++ slice_index_or s.held 0 []
+due s row fate = option_to_list (in_turn (delay_in fate) (next_frame s row fate)) ++ slice_index_or s.held 0 []
 
 -- one row more
 abbrev pub after : Sequence → Row → Fate → Sequence
@@ -82,5 +91,5 @@ after s row fate = record {
   history = s.history;
   taken = s.taken + 1;
   rows = carried_next s row;
-  held = drop 1 (held_with s row fate) ++ [] ∷ [];
+  held = drop 1 (held_with s.held (delay_in fate) (next_frame s row fate)) ++ [] ∷ [];
 }

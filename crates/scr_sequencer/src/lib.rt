@@ -18,6 +18,7 @@
 //! that it carries is copied once.
 #![tactic(auto)]
 
+mod holding;
 mod outgoing;
 mod sequencer;
 #[cfg(test)]

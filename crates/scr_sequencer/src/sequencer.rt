@@ -1,16 +1,17 @@
-ghost use Rattle.std.specs.Prelude.{◌≡◌, ◌≤◌, ◌<◌, ◌+◌, [], ◌∷◌, ◌++◌, drop, length, Some, None, IfOk, IfSome, IfNone, OnErr, OnOk, if◌then◌else◌};
+ghost use Rattle.std.specs.Prelude.{◌≡◌, ◌≢◌, ◌≤◌, ◌<◌, ◌+◌, [], ◌∷◌, ◌++◌, drop, take, length, Some, None, IfOk, IfSome, IfNone, OnErr, OnOk, if◌then◌else◌};
 ghost use Rattle.std.specs.Option.{option_to_list};
 ghost use Rattle.circular_buffer.specs.Buffer.{keep_last};
 ghost use Rattle.scr_plan.specs.Limits.{most_packets, most_cores, longest_history};
 ghost use Rattle.scr_plan.specs.Delays.{greatest_delay};
 ghost use Rattle.scr_plan.specs.Link.{delay_in};
-ghost use Rattle.scr_plan.specs.Plan.{Plan};
+ghost use Rattle.scr_plan.specs.Plan.{Plan, frame_count};
 ghost use Rattle.scr_plan.specs.Order.{has_beacon};
 ghost use Rattle.scr_wire.specs.declared.message.Message.TheVariants.{Frame};
-ghost use Rattle.scr_wire.specs.Spelling.{Spells};
-ghost use Rattle.scr_sequencer.specs.Sequence.{Sequence, IsSequence, begun, after, carried_next, arriving, put, in_turn, held_with};
-ghost use Rattle.scr_sequencer.specs.Answers.{IsAnswer, Follows, IsNext, Adds};
+ghost use Rattle.scr_wire.specs.Spelling.{HasSpelling, Spells};
+ghost use Rattle.scr_sequencer.specs.Sequence.{Sequence, IsSequence, begun, after, carried_next, arriving, next_frame};
+ghost use Rattle.scr_sequencer.specs.Answers.{IsAnswer, Follows, IsNext, Adds, AddsFrom};
 
+use crate::holding::{Held, hold_late, take_due};
 use crate::outgoing::{Arriving, Outgoing};
 use circular_buffer::HeapCircularBuffer;
 use scr_base::{OutOfMemory, Row};
@@ -33,8 +34,7 @@ pub struct Sequencer {
     history: u32,
     taken: u32,
     rows: HeapCircularBuffer<Row>,
-    // The frames that come later, by the step at which they come, from the next one on.
-    held: HeapCircularBuffer<Vec<Arriving>>,
+    held: Held,
 }
 
 impl Model for Sequencer {
@@ -126,13 +126,10 @@ impl Sequencer {
     // The next frame, once or twice, on its way to its core.
     fn arriving(&self, row: &Row, twice: bool) -> Result<Arriving, OutOfMemory>
         requires { self.now.taken < most_packets }
-        ensures { IfOk result (λ it. it ≡ arriving self.now row.now twice) }
+        ensures frame { IfOk result (λ it. it ≡ arriving self.now row.now twice) }
+        ensures fits { OnOk result (HasSpelling (Frame (self.now.taken + 1) (carried_next self.now row.now))) }
     {
-        let copy = if twice {
-            Some(self.packet(row)?)
-        } else {
-            None
-        };
+        let copy = if twice { Some(self.packet(row)?) } else { None };
         Ok(Arriving {
             core: self.taken % self.cores,
             packet: self.packet(row)?,
@@ -140,37 +137,34 @@ impl Sequencer {
         })
     }
 
-    // Holds a frame for a later step.
-    fn hold(&mut self, delay: u32, frame: Arriving) -> Result<(), OutOfMemory>
-        requires { delay ≤ greatest_delay }
-        ensures ok { OnOk result (self.new ≡ record self.old { held = put self.old.held delay frame }) }
-        ensures err { OnErr result (self.new ≡ self.old) }
+    // The next frame, where it arrives.
+    fn frame(&self, row: &Row, fate: Fate) -> Result<Option<Arriving>, OutOfMemory>
+        requires { self.now.taken < most_packets }
+        ensures frame { IfOk result (λ frame. frame ≡ next_frame self.now row.now fate) }
+        ensures fits { OnOk result (fate ≢ Fate.Lost → HasSpelling (Frame (self.now.taken + 1) (carried_next self.now row.now))) }
     {
-        match self.held.get_mut(delay as usize) {
-            Some(frames) => Ok(frames.push(frame)?),
-            None => Ok(()),
+        match fate {
+            Fate::Lost => Ok(None),
+            Fate::Once { .. } => Ok(Some(self.arriving(row, false)?)),
+            Fate::Twice { .. } => Ok(Some(self.arriving(row, true)?)),
         }
     }
 
-    // The next frame, where it comes in its turn. A later one is held.
-    fn own(&mut self, row: &Row, fate: Fate) -> Result<Option<Arriving>, OutOfMemory>
+    // What the next step adds to the lanes.
+    fn take(&mut self, row: Row, fate: Fate) -> Result<Outgoing, OutOfMemory>
         requires few { self.old.taken < most_packets }
         requires near { delay_in fate ≤ greatest_delay }
-        ensures own { IfOk result (λ own. option_to_list own ≡ in_turn self.old row.now fate) }
-        ensures ok { OnOk result (self.new ≡ record self.old { held = held_with self.old row.now fate }) }
+        ensures answer { IfOk result (IsAnswer self.old row fate) }
+        ensures ok { OnOk result (self.new ≡ after self.old row fate) }
         ensures err { OnErr result (self.new ≡ self.old) }
     {
-        let (delay, twice) = match fate {
-            Fate::Lost => return Ok(None),
-            Fate::Once { delay } => (delay, false),
-            Fate::Twice { delay } => (delay, true),
-        };
-        let frame = self.arriving(row, twice)?;
-        if delay == 0 {
-            return Ok(Some(frame));
-        }
-        self.hold(delay, frame)?;
-        Ok(None)
+        let beacon = self.beacon();
+        let frame = self.frame(&row, fate)?;
+        let own = hold_late(&mut self.held, fate.delay(), frame)?;
+        let late = take_due(self.alloc, &mut self.held);
+        self.rows.push_back(row);
+        self.taken += 1;
+        Ok(Outgoing { beacon, own, late })
     }
 
     /// What the next step adds to the lanes: its packet has this row, and the link does this with its frame. After an
@@ -184,23 +178,19 @@ impl Sequencer {
         // Behind the first rows of a plan, its next row gives what the next step adds to the lanes of that plan.
         ensures lanes { (plan : Plan) → Follows plan self.old → IsNext plan self.old row fate → IfOk result (Adds plan (self.old.taken + 1)) × OnOk result (Follows plan self.new) }
     {
-        let own = self.own(&row, fate)?;
-        let beacon = self.beacon();
-        self.rows.push_back(row);
-        self.taken += 1;
-        let late = match self.held.push_back(Vec::new(self.alloc)) {
-            Some(late) => late,
-            None => Vec::new(self.alloc),
-        };
-        Ok(Outgoing { beacon, own, late })
+        self.take(row, fate)
     }
 
     /// What is held after the last row, and the number of the end, which is how many rows were given.
     pub fn finish(self) -> Rest
-        ensures { result ≡ record { held = self.held; end = self.taken } }
+        ensures rest { result ≡ record { held = take greatest_delay self.held; end = self.taken } }
+        // Behind the last row of a plan, these are what the later steps add to the lanes of that plan.
+        ensures lanes { (plan : Plan) → Follows plan self → self.taken ≡ frame_count plan → AddsFrom plan (self.taken + 1) result.held × (length result.held ≡ greatest_delay) }
     {
+        let mut held = self.held;
+        held.pop_back();
         Rest {
-            held: self.held,
+            held,
             end: self.taken,
         }
     }
@@ -209,7 +199,7 @@ impl Sequencer {
 /// What goes out behind the last step.
 #[derive(Drop)]
 pub struct Rest {
-    held: HeapCircularBuffer<Vec<Arriving>>,
+    held: Held,
     end: u32,
 }
 
