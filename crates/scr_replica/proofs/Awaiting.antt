@@ -1,20 +1,21 @@
 -- What the cores still await of a step, packet by packet.
-use Rattle.std.proofs.Common.{◌≡◌, ◌≢◌, ℕ, suc, ◌+◌, ◌<◌, ◌≤◌, Bool, true, false, cond, List, [], ◌∷◌, ◌++◌, length, get_or, set, replicate, map, Option, Some, None, Result, Ok, Err, inl, inr, arith, refl, sym, ap, subst, ◌∙◌, append_assoc, append-nil, eqb, option_to_list}
+use Rattle.std.proofs.Common.{◌≡◌, ℕ, suc, ◌+◌, ◌<◌, ◌≤◌, Bool, true, false, cond, List, [], ◌∷◌, ◌++◌, length, get_or, drop, set, replicate, map, Option, Some, None, Result, Ok, Err, inl, inr, arith, refl, sym, ap, subst, ◌∙◌, append_assoc, append-nil, eqb, option_to_list}
 use Rattle.std.specs.Prelude.{OnOk, slice_get}
-use Rattle.std.specs.List.{AllZip, flat_map}
-use Rattle.std.proofs.lemmas.List.{length-set, length_push, length-replicate, get_or_default, get_or-replicate, get_or-set_same, get_or-set_other}
+use Rattle.std.specs.List.{All, AllZip, flat_map}
+use Rattle.std.proofs.Math.Seq.{drop-cons}
+use Rattle.std.proofs.lemmas.List.{drop_all, length-append, get_or-append-add, length-set, length_push, length-replicate, get_or_default, get_or-replicate, get_or-set_same, get_or-set_other}
 use Rattle.std.proofs.lemmas.Bool.{cases_eq}
 use Rattle.std.proofs.lemmas.Bool.Decides.{nat_tests}
 use Rattle.std.proofs.lemmas.Grind.{flat_map-append}
+use Rattle.std.proofs.lemmas.List.Concat.{flat_map-cons}
 use Rattle.scr_plan.specs.Plan.{Plan, IsPlan, frame_count}
 use Rattle.scr_wire.specs.declared.message.Message.{Message}
 use Rattle.scr_wire.specs.declared.message.Message.TheVariants.{End}
-use Rattle.scr_wire.specs.Spelling.{Spells}
+use Rattle.scr_wire.specs.Spelling.{Spells, spelling}
 use Rattle.scr_wire.specs.Lane.{added, lane_so_far, last_step, lane}
 use Rattle.scr_wire.proofs.LaneGrows.{lane_so_far-zero, lane_so_far-suc, lane_front, length-lane}
 use Rattle.scr_sequencer.specs.Sequence.{Arriving}
-use Rattle.scr_sequencer.specs.Answers.{Answer, Adds, packets_to, sent_to}
-use Rattle.scr_replica.specs.Entries.{entries_up_to}
+use Rattle.scr_sequencer.specs.Answers.{Answer, Adds, beacons_of, packets_to, sent_to}
 use Rattle.scr_replica.specs.Told.{Told, untold, IsTold, Tells, AllFinal}
 use Rattle.scr_replica.specs.Awaiting.{Awaits, AllAwait, AllTook}
 use Rattle.scr_replica.proofs.Deciding.{told-none, told-whole}
@@ -30,6 +31,31 @@ pub on_ok_told : {A E Q : Type 0} (history : ℕ) (packet : List ℕ) (old new :
     → ((message : Message) → Spells message packet → OnOk result (Tells history message old new)) → OnOk result Q
 on_ok_told history packet old new (Ok value) then holds = then holds
 on_ok_told history packet old new (Err error) then holds = tt
+
+-- the same of all cores
+pub on_ok_all : {A E Q : Type 0} (history : ℕ) (packet : List ℕ) (old new : List Told) (result : Result A E)
+    → (((message : Message) → Spells message packet → (core : ℕ) → core < length old
+    → Tells history message (get_or old core untold) (get_or new core untold)) → Q)
+    → ((message : Message) → Spells message packet
+    → OnOk result ((core : ℕ) → core < length old → Tells history message (get_or old core untold) (get_or new core untold))) → OnOk result Q
+on_ok_all history packet old new (Ok value) then holds = then holds
+on_ok_all history packet old new (Err error) then holds = tt
+
+-- the packets of frames, one frame at a time
+pub frames-next : (frames : List Arriving) (i : ℕ) (it : Arriving) (core : ℕ) → i < length frames → it ≡ get_or frames i it
+    → flat_map (packets_to core) (drop i frames) ≡ packets_to core it ++ flat_map (packets_to core) (drop (i + 1) frames)
+frames-next frames i it core within is =
+    let next : suc i ≡ i + 1 = omega arith in
+    ap (flat_map (packets_to core)) (drop-cons frames i it within ∙ ap (λ (x : Arriving). x ∷ drop (suc i) frames) (sym is) ∙ ap (λ (k : ℕ). it ∷ drop k frames) next)
+    ∙ flat_map-cons (packets_to core) it (drop (i + 1) frames)
+
+pub frames-over : (frames : List Arriving) (i core : ℕ) → length frames ≤ i → flat_map (packets_to core) (drop i frames) ≡ []
+frames-over frames i core all = ap (flat_map (packets_to core)) (drop_all i frames all)
+
+-- what holds of all frames holds of those behind others
+pub all-behind : (P : Arriving → Type 0) (front back : List Arriving) → All P (front ++ back) → All P back
+all-behind P front back all k d within =
+    subst P (get_or-append-add front back k d) (all (length front + k) d (omega (arith, length-append front back)))
 
 -- the element behind others
 element-behind : (front : List Message) (it : Message) (rest : List Message) → slice_get (front ++ it ∷ rest) (length front) ≡ Some it
@@ -165,7 +191,7 @@ module _ (plan : Plan) where
 
     -- packets for one core
     module _ (own : ℕ) (packets : List (List ℕ)) (rest : ℕ → List (List ℕ)) (old : List Told) (below_count : own < plan.cores)
-      (await : AllAwait plan n (λ core. cond (eqb own core) packets [] ++ rest core) old) where
+        (await : AllAwait plan n (λ core. cond (eqb own core) packets [] ++ rest core) old) where
       pub own-awaits : Awaits plan own n (packets ++ rest own) (get_or old own untold)
       own-awaits =
           let here : eqb own own ≡ true = grind (arith, nat_tests) in
@@ -191,9 +217,18 @@ module _ (plan : Plan) where
                 ];
           }
 
+  -- a step begins, in parts
+  pub begun-parts : (n : ℕ) (beacon : Option ℕ) (own late : List Arriving) (cores : List Told) → n < frame_count plan → AllTook plan n cores
+      → Adds plan (n + 1) (record { beacon = beacon; sent = own ++ late })
+      → AllAwait plan (n + 1) (λ core. map spelling (beacons_of beacon) ++ (flat_map (packets_to core) own ++ flat_map (packets_to core) late)) cores
+  begun-parts n beacon own late cores below took adds =
+      await-same (n + 1) _ _ cores
+      (λ core. ap (λ (ps : List (List ℕ)). map spelling (beacons_of beacon) ++ ps) (flat_map-append (packets_to core) own late))
+      (begun n (n + 1) (record { beacon = beacon; sent = own ++ late }) cores refl (omega arith) took adds)
+
   -- a frame, once or twice, for its core, which is this
   module _ (n : ℕ) (it : Arriving) (rest : ℕ → List (List ℕ)) (cores : List Told) (d : Told) (below : it.core < plan.cores)
-    (await : AllAwait plan n (λ core. packets_to core it ++ rest core) cores) where
+      (await : AllAwait plan n (λ core. packets_to core it ++ rest core) cores) where
     abbrev old : Told
     old = get_or cores it.core d
 

@@ -17,7 +17,6 @@ use Rattle.scr_wire.specs.declared.message.Message.TheVariants.{Frame, Beacon, E
 use Rattle.scr_wire.specs.Spelling as message
 use Rattle.scr_wire.specs.Lane.{message_of, frame, lane_so_far, lane, decided_by, decided_by_all, decided}
 use Rattle.scr_wire.proofs.Decides.{decided-zero, decided-suc, decided-le, decided-whole}
-use Rattle.scr_replica.specs.declared.entry.Entry.{Entry}
 use Rattle.scr_replica.specs.Entries.{Knows, IsFrameTo, entries_up_to, with_lost}
 use Rattle.scr_replica.specs.Told.{Told, untold, greatest_number, IsTold}
 use Rattle.scr_replica.proofs.Lost.{length-with_lost}

@@ -1,6 +1,6 @@
 -- The beacons and frames of a lane, place by place.
-use Rattle.std.proofs.Common.{◌≡◌, ◌≢◌, ℕ, zero, suc, ◌+◌, ◌-◌, ◌<◌, ◌≤◌, Bool, true, false, cond, ◌&&◌, ◌||◌, not, List, [], ◌∷◌, ◌++◌, length, get_or, take, drop, map, max, inl, inr, refl, sym, ap, subst, ◌∙◌, arith, eqb, ltb}
-use Rattle.std.specs.Prelude.{fold, slice_get}
+use Rattle.std.proofs.Common.{◌≡◌, ℕ, zero, suc, ◌+◌, ◌-◌, ◌<◌, ◌≤◌, Bool, true, false, cond, ◌&&◌, ◌||◌, not, List, [], ◌∷◌, length, get_or, take, map, max, inl, inr, refl, sym, ap, ◌∙◌, arith, eqb, ltb}
+use Rattle.std.specs.Prelude.{fold}
 use Rattle.std.specs.List.{list_all, list_any, before_first, position_or_len}
 use Rattle.std.proofs.lemmas.Bool.{cases_eq}
 use Rattle.std.proofs.lemmas.Bool.Decides.{nat_tests}
@@ -8,9 +8,8 @@ use Rattle.scr_plan.specs.Order.{Item}
 use Rattle.scr_plan.specs.Order as item
 use Rattle.scr_plan.specs.Plan.{Plan}
 use Rattle.scr_plan.specs.Delivered.{number_of, is_frame, delivers}
-use Rattle.scr_wire.specs.declared.message.Message.{Message}
 use Rattle.scr_wire.specs.Spelling as message
-use Rattle.scr_wire.specs.Lane.{message_of, decided_by, decided_by_all}
+use Rattle.scr_wire.specs.Lane.{message_of, decided_by}
 
 -- ---- tests of a list
 

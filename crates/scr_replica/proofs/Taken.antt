@@ -1,7 +1,6 @@
 -- Which frames of a lane are taken: just those that are delivered, each once. And what those before a place decide.
-use Rattle.std.proofs.Common.{◌≡◌, ℕ, suc, ◌+◌, ◌<◌, ◌≤◌, ◌⊎◌, Bool, true, false, ◌&&◌, not, List, [], ◌∷◌, ◌++◌, length, get_or, take, inl, inr, refl, sym, ap, ◌∙◌, arith, eqb}
+use Rattle.std.proofs.Common.{◌≡◌, ℕ, ◌+◌, ◌<◌, ◌≤◌, ◌⊎◌, Bool, true, false, ◌&&◌, not, List, length, get_or, take, inl, inr, refl, sym, ap, ◌∙◌, arith, eqb}
 use Rattle.std.specs.List.{list_all, list_any, before_first}
-use Rattle.std.proofs.lemmas.Bool.{cases_lt}
 use Rattle.std.proofs.lemmas.Bool.Decides.{nat_tests}
 use Rattle.scr_plan.specs.Delays.{greatest_delay}
 use Rattle.scr_plan.specs.Plan.{Plan, IsPlan, frame_count}

@@ -1,8 +1,8 @@
 -- What a core knows of the packets by the frames that are delivered to it.
-use Rattle.std.specs.Prelude.{◌≡◌, ℕ, ◌-◌, ◌<◌, ◌≤◌, Bool, true, false, List, [], ◌++◌, length, map, replicate, slice_index_or, Option, Some, None, if◌then◌else◌}
+use Rattle.std.specs.Prelude.{◌≡◌, ℕ, ◌-◌, ◌≤◌, Bool, true, false, List, ◌++◌, length, map, replicate, Option, Some, None, if◌then◌else◌}
 use Rattle.std.specs.List.{range_with_len}
 use Rattle.scr_base.specs.declared.row.Row.{Row}
-use Rattle.scr_plan.specs.Plan.{Plan, frame_count}
+use Rattle.scr_plan.specs.Plan.{Plan}
 use Rattle.scr_plan.specs.Delivered.{delivers_to}
 use Rattle.scr_plan.specs.FinalEntry.{final_entry}
 use Rattle.scr_wire.specs.declared.message.Message.{Message}

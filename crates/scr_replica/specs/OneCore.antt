@@ -1,7 +1,7 @@
 -- The one-core answer of a plan: one core takes the rows of the kept packets in order, each once, and the answer is the
 -- verdict of each delivered frame's packet, and how many entries there are at the end. A program is given by its verdict
 -- of a row that comes after a list of rows, and by its count of entries after such a list.
-use Rattle.std.specs.Prelude.{ℕ, ◌-◌, List, [], length, take, Option, None, filter_map, if◌then◌else◌}
+use Rattle.std.specs.Prelude.{ℕ, ◌-◌, List, length, take, Option, None, filter_map, if◌then◌else◌}
 use Rattle.std.specs.List.{range_with_len, slice_get}
 use Rattle.std.specs.Option.{option_map}
 use Rattle.scr_base.specs.declared.row.Row.{Row}

@@ -65,11 +65,7 @@ fn give_beacon(
 }
 
 // Gives a frame to its core, as often as it comes.
-fn give_frame(
-    plan: &RunPlan,
-    cores: &mut [Listener],
-    frame: &Arriving,
-) -> Result<(), OutOfMemory>
+fn give_frame(plan: &RunPlan, cores: &mut [Listener], frame: &Arriving) -> Result<(), OutOfMemory>
     requires core { frame.now.core < plan.now.cores }
     requires awaited { (n : ℕ) × (rest : ℕ → List (List ℕ)) × AllAwait plan.now n (λ core. packets_to core frame.now ++ rest core) cores.old }
     ensures { (n : ℕ) (rest : ℕ → List (List ℕ)) → AllAwait plan.now n (λ core. packets_to core frame.now ++ rest core) cores.old → OnOk result (AllAwait plan.now n rest cores.new) }
@@ -130,11 +126,7 @@ fn give_step(
 }
 
 // Gives the cores what the steps behind the last row add.
-fn give_late(
-    plan: &RunPlan,
-    cores: &mut [Listener],
-    rest: &mut Rest,
-) -> Result<(), OutOfMemory>
+fn give_late(plan: &RunPlan, cores: &mut [Listener], rest: &mut Rest) -> Result<(), OutOfMemory>
     requires took { AllTook plan.now (frame_count plan.now) cores.old }
     requires steps { length rest.old.held ≡ greatest_delay }
     requires adds { AddsFrom plan.now (frame_count plan.now + 1) rest.old.held }

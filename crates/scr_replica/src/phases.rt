@@ -5,9 +5,9 @@ ghost use Rattle.scr_replica.specs.OneCore.{verdicts, entries};
 ghost use Rattle.scr_replica.specs.Told.{AllFinal};
 ghost use Rattle.scr_replica.specs.Answers.{core_answers};
 
-use crate::listener::Listener;
 use crate::filling::filled;
 use crate::gathered::{CoreResult, Gathered};
+use crate::listener::Listener;
 use crate::merging::gather;
 use crate::replay::replay;
 use scr_base::OutOfMemory;

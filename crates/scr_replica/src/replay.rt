@@ -6,9 +6,9 @@ ghost use Rattle.scr_replica.specs.Entries.{row_in, is_delivered};
 ghost use Rattle.scr_replica.specs.Told.{untold, AllFinal, row_at};
 ghost use Rattle.scr_replica.specs.Answers.{core_answer};
 
-use crate::listener::Listener;
 use crate::entry::Entry;
 use crate::gathered::CoreResult;
+use crate::listener::Listener;
 use scr_base::{OutOfMemory, Row};
 use scr_plan::{CoreCounts, Given, RunPlan, core_of};
 use scr_program::Program;

@@ -1,15 +1,10 @@
-use Rattle.std.proofs.Common.{◌≡◌, ℕ, ◌-◌, ◌<◌, max, length, Some, refl, sym, ap, subst, ◌∙◌, arith}
-use Rattle.std.specs.Prelude.{slice_get}
-use Rattle.scr_base.specs.declared.row.Row.{Row}
-use Rattle.scr_plan.specs.Plan.{Plan, IsPlan}
+use Rattle.std.proofs.Common.{◌≡◌, ℕ, ◌-◌, ◌<◌, max, refl, sym, ap, subst, ◌∙◌, arith}
 use Rattle.scr_wire.specs.declared.message.Message.{Message}
 use Rattle.scr_wire.specs.declared.message.Message.TheVariants.{Frame, Beacon, End}
-use Rattle.scr_wire.specs.declared.message.MessageKind.{MessageKind}
 use Rattle.scr_wire.specs.declared.message.MessageKind.TheVariants as kind
 use Rattle.scr_wire.specs.Spelling.{kind_of, number_of, rows_of}
-use Rattle.scr_wire.specs.Lane.{lane}
 use Rattle.scr_replica.specs.Entries.{Knows, with_lost}
-use Rattle.scr_replica.specs.Told.{Told, IsTold}
+use Rattle.scr_replica.specs.Told.{Told}
 use Rattle.scr_replica.proofs.Deciding.{told-beacon, told-end, told-passed, told-frame, is_frame-to, knows-before}
 use Rattle.scr_replica.proofs.listener.Listener.take.Goals as goal
 use Rattle.scr_replica.proofs.listener.Listener.take.Goals.{in-Frame-2+in_ok-take_frame-in-Frame-2, in-Beacon+in_ok-lose-in-Beacon, in-End+in_ok-lose-in-End}
