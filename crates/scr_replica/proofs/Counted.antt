@@ -10,10 +10,10 @@ use Rattle.scr_plan.specs.declared.given.Given.{Given}
 use Rattle.scr_plan.specs.Delivered.{delivers}
 use Rattle.scr_plan.specs.Kept.{keeps}
 use Rattle.scr_plan.specs.Counts.{delivered_count, kept_count}
+use Rattle.scr_plan.specs.Link.{empty_link}
 use Rattle.scr_plan.specs.Plan.{Plan, frame_count}
 use Rattle.scr_plan.proofs.FromOne.{range-suc, count-suc}
-use Rattle.scr_plan.proofs.Delivering.{delivered-no_drops}
-use Rattle.scr_plan.proofs.Packets.{kept-no_drops}
+use Rattle.scr_plan.proofs.EmptyLink.{delivered-all, kept-all}
 use Rattle.scr_replica.specs.OneCore.{given_with, given_at, verdicts}
 
 -- a test that all numbers from 1 to m pass counts m
@@ -23,12 +23,12 @@ count-all test (suc m) all =
     let before = count-all test m (λ n from to. all n from (omega arith)) in
     rw (count-suc test m, all (suc m) (omega arith) (omega arith)) (omega (arith, before))
 
--- where no frame is dropped, all are delivered, and all packets are kept
-pub delivered_count-all : (plan : Plan) → plan.drops ≡ [] → delivered_count plan ≡ frame_count plan
-delivered_count-all plan none = count-all (λ n. delivers plan n) (frame_count plan) (λ n from to. delivered-no_drops plan n none from to)
+-- where the link does nothing, all are delivered, and all packets are kept
+pub delivered_count-all : (plan : Plan) → plan.link ≡ empty_link → delivered_count plan ≡ frame_count plan
+delivered_count-all plan none = count-all (λ n. delivers plan n) (frame_count plan) (λ n from to. delivered-all plan none n from to)
 
-pub kept_count-all : (plan : Plan) → plan.drops ≡ [] → kept_count plan ≡ frame_count plan
-kept_count-all plan none = count-all (λ p. keeps plan p) (frame_count plan) (λ p from to. kept-no_drops plan p none from to)
+pub kept_count-all : (plan : Plan) → plan.link ≡ empty_link → kept_count plan ≡ frame_count plan
+kept_count-all plan none = count-all (λ p. keeps plan p) (frame_count plan) (λ p from to. kept-all plan none p from to)
 
 -- there is a row at each number
 row-there : (rows : List Row) (n : ℕ) → n < length rows → (row : Row) × (slice_get rows n ≡ Some row)

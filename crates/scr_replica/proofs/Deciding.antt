@@ -1,219 +1,296 @@
--- What a core knows, message by message: after the first m messages of its lane, just the packets that these decide.
-use Rattle.std.proofs.Common.{◌≡◌, ℕ, zero, suc, ◌+◌, ◌-◌, ◌<◌, ◌≤◌, ◌⊎◌, Bool, true, false, cond, List, [], ◌∷◌, ◌++◌, length, get_or, take, map, max, inl, inr, arith, refl, sym, ap, subst, ◌∙◌, append_assoc}
-use Rattle.std.specs.Prelude.{fold}
+-- What the message at a place of a lane decides, and what a core knows behind it.
+use Rattle.std.proofs.Common.{◌≡◌, ℕ, zero, suc, ◌+◌, ◌-◌, ◌<◌, ◌≤◌, ◌⊎◌, Bool, true, false, cond, List, [], map, ◌∷◌, ◌++◌, length, get_or, take, max, Some, inl, inr, arith, refl, sym, ap, subst, ◌∙◌, eqb}
+use Rattle.std.specs.Prelude.{fold, slice_get}
 use Rattle.std.proofs.lemmas.Bool.{cases_lt}
-use Rattle.std.proofs.lemmas.List.{length-append, map-append, take_at}
+use Rattle.std.proofs.lemmas.Bool.Decides.{nat_tests}
+use Rattle.std.proofs.lemmas.List.{take_more, take_all, take-append-le, map-append}
 use Rattle.std.proofs.lemmas.Grind.{fold-append}
-use Rattle.scr_plan.specs.Plan.{Plan, frame_count}
-use Rattle.scr_plan.specs.Delivered.{delivers_to}
+use Rattle.std.proofs.lemmas.Option.{get_or_from_slice_get, slice_get_within}
+use Rattle.scr_base.specs.declared.row.Row.{Row}
+use Rattle.scr_plan.specs.Plan.{Plan, IsPlan, frame_count}
+use Rattle.scr_plan.specs.Order.{Item, order}
+use Rattle.scr_plan.specs.Order as item
+use Rattle.scr_plan.specs.Delivered.{delivers, delivers_to, is_frame, number_of}
+use Rattle.scr_plan.proofs.Delivering.{Decides-delivered_to}
 use Rattle.scr_wire.specs.declared.message.Message.{Message}
-use Rattle.scr_wire.specs.declared.message.Message.TheVariants.{Beacon, End}
-use Rattle.scr_wire.specs.Spelling.{number_of}
-use Rattle.scr_plan.specs.Order.{has_beacon}
-use Rattle.scr_wire.specs.Lane.{frame, beacon_before, frame_to, added, lane_so_far, lane, decided_by, decided_by_all, decided}
-use Rattle.scr_wire.proofs.LaneGrows.{lane_so_far-zero, lane_so_far-suc, lane_front, lane_at, lane_at_end, length-lane}
-use Rattle.scr_wire.proofs.Decides.{decided-suc, decided-le}
-use Rattle.scr_replica.specs.declared.entry.Entry.{Entry}
+use Rattle.scr_wire.specs.declared.message.Message.TheVariants.{Frame, Beacon, End}
+use Rattle.scr_wire.specs.Spelling as message
+use Rattle.scr_wire.specs.Lane.{message_of, frame, lane_so_far, lane, decided_by, decided_by_all, decided}
+use Rattle.scr_wire.proofs.Decides.{decided-zero, decided-suc, decided-le, decided-whole}
 use Rattle.scr_replica.specs.Entries.{Knows, IsFrameTo, entries_up_to, with_lost}
+use Rattle.scr_replica.specs.Told.{Told, untold, greatest_number, IsTold}
 use Rattle.scr_replica.proofs.Lost.{length-with_lost}
-use Rattle.scr_replica.proofs.Knowing.{is_frame_to, Knows-beacon, Knows-end, length-entries}
+use Rattle.scr_replica.proofs.Knowing.{knows_lost, Knows-end, length-entries}
+use Rattle.scr_replica.proofs.LaneItems.{greatest, decided_from, decided-few}
+use Rattle.scr_replica.proofs.Taken.{delivered-all, delivered-before, taken-delivered, passed-decided}
 
--- what messages decide, and more behind them
-decided_by_all-append : (history : ℕ) (xs ys : List Message)
-    → decided_by_all history (xs ++ ys) ≡ fold max (decided_by_all history xs) (map (decided_by history) ys)
-decided_by_all-append history xs ys =
-    ap (fold max 0) (map-append (decided_by history) xs ys) ∙ fold-append max 0 (map (decided_by history) xs) (map (decided_by history) ys)
+-- the message at a place is that of an item, or the last
+message-at : (f : Item → Message) (items : List Item) (last : Message) (m : ℕ) (it : Message) → slice_get (map f items ++ last ∷ []) m ≡ Some it
+    → (m < length items × (it ≡ f (get_or items m (item.Beacon 0)))) ⊎ ((m ≡ length items) × (it ≡ last))
+message-at f [] last zero it e = inr (refl, cc)
+message-at f [] last (suc m) it e = absurd cc
+message-at f (x ∷ items) last zero it e = inl (omega arith, cc)
+message-at f (x ∷ items) last (suc m) it e =
+    elim (message-at f items last m it e) [
+      | inl here ↦ inl (let below = here.0 in omega arith, here.1)
+      | inr end ↦ inr (let at = end.0 in omega arith, end.1)
+    ]
 
-one_number : (history x y n : ℕ) (m : Message) (b d : Bool) → decided_by history m ≡ n
-    → fold max x (map (decided_by history) (cond b (Beacon y ∷ []) [] ++ cond d (m ∷ []) [])) ≡ max (max x (cond b (y - history) 0)) (cond d n 0)
-one_number history x y n m true true e = ap (max (max x (y - history))) e
-one_number history x y n m true false e = omega arith
-one_number history x y n m false true e = let no_beacon : max x 0 ≡ x = omega arith in ap (max x) e ∙ ap (λ (k : ℕ). max k n) (sym no_beacon)
-one_number history x y n m false false e = omega arith
+take-map : (f : Item → Message) (m : ℕ) (items : List Item) → take m (map f items) ≡ map f (take m items)
+take-map f zero items = refl
+take-map f (suc m) [] = refl
+take-map f (suc m) (x ∷ items) = ap (λ (xs : List Message). f x ∷ xs) (take-map f m items)
 
-bound : (x y z n : ℕ) (b d : Bool) → x ≤ n → y ≤ n → z ≤ suc n → max (max x (cond b y 0)) (cond d z 0) ≤ suc n
-bound x y z n true true p q r = omega arith
-bound x y z n true false p q r = omega arith
-bound x y z n false true p q r = omega arith
-bound x y z n false false p q r = omega arith
+length-map : (f : Item → Message) (items : List Item) → length (map f items) ≡ length items
+length-map f [] = refl
+length-map f (x ∷ items) = ap suc (length-map f items)
 
--- what the first m messages of a lane decide, where these have all frames up to n that are delivered to the core
-pub record Stands (plan : Plan) (core m n : ℕ) : Type 0 where
-  pub within : decided plan core m ≤ n
-  pub own : (f : ℕ) → f ≤ n → delivers_to plan core f ≡ true → f ≤ decided plan core m
+is-beacon : (plan : Plan) (it : Item) (n : ℕ) → Beacon n ≡ message_of plan it → it ≡ item.Beacon n
+is-beacon plan (item.Beacon m) n e = cc
+is-beacon plan (item.Frame m) n e = absurd cc
 
--- the message behind these is the beacon of that number, the next frame, or the end
-pub record IsPlace (plan : Plan) (core m : ℕ) (message : Message) : Type 0 where
-  pub number : ℕ
-  pub stands : Stands plan core m number
-  pub behind : (message ≡ Beacon number) ⊎ ((IsFrameTo plan core message × (number_of message ≡ suc number)) ⊎ ((message ≡ End (frame_count plan)) × (number ≡ frame_count plan)))
+is-frame : (plan : Plan) (it : Item) (n : ℕ) (rows : List Row) → Frame n rows ≡ message_of plan it
+    → (it ≡ item.Frame n) × (Frame n rows ≡ frame plan n)
+is-frame plan (item.Beacon m) n rows e = absurd cc
+is-frame plan (item.Frame m) n rows e =
+    let same : n ≡ m = ap message.number_of e in
+    (ap item.Frame (sym same), e ∙ ap (frame plan) (sym same))
+
+isnt-end : (plan : Plan) (it : Item) (n : ℕ) → End n ≡ message_of plan it → ⊥
+isnt-end plan (item.Beacon m) n e = absurd cc
+isnt-end plan (item.Frame m) n e = absurd cc
+
+-- all frames up to n that are delivered to the core are among those that the first m messages of its lane decide
+abbrev pub Stands : Plan → (core m n : ℕ) → Type 0
+Stands plan core m n = (f : ℕ) → f ≤ n → delivers_to plan core f ≡ true → f ≤ decided plan core m
 
 module _ (plan : Plan) (core : ℕ) where
-  so_far : ℕ → ℕ
-  so_far n = decided_by_all plan.history (lane_so_far plan core n)
+  abbrev items : List Item
+  items = order plan core
 
-  so_far-suc : (n : ℕ) → so_far (suc n) ≡ max (max (so_far n) (cond (has_beacon (suc n)) (suc n - 1 - plan.history) 0)) (cond (delivers_to plan core (suc n)) (suc n) 0)
-  unfolding so_far beacon_before frame_to
-  so_far-suc n =
-      ap (decided_by_all plan.history) (lane_so_far-suc plan core n)
-      ∙ decided_by_all-append plan.history (lane_so_far plan core n) (added plan core (suc n))
-      ∙ one_number plan.history (so_far n) (suc n - 1) (suc n) (frame plan (suc n)) (has_beacon (suc n)) (delivers_to plan core (suc n)) refl
+  front-is : (m : ℕ) → m ≤ length items → take m (lane plan core) ≡ map (message_of plan) (take m items)
+  unfolding lane_so_far
+  front-is m le =
+      let len = length-map (message_of plan) items in
+      take-append-le m (map (message_of plan) items) (End (frame_count plan) ∷ []) (omega arith) ∙ take-map (message_of plan) m items
 
-  so_far-le : (n : ℕ) → so_far n ≤ n
-  unfolding so_far
-  so_far-le zero = let none = ap (decided_by_all plan.history) (lane_so_far-zero plan core) in omega (arith, none)
-  so_far-le (suc n) =
-      let more = so_far-suc n in
-      let before = so_far-le n in
-      let all = bound (so_far n) (suc n - 1 - plan.history) (suc n) n (has_beacon (suc n)) (delivers_to plan core (suc n)) before (omega arith) (omega arith) in
-      omega (arith, more, all)
+  decided-is : (m : ℕ) → m ≤ length items → decided plan core m ≡ decided_from plan 0 (take m items)
+  unfolding decided
+  decided-is m le = ap (decided_by_all plan) (front-is m le)
 
-  so_far-own : (n f : ℕ) → f ≤ n → delivers_to plan core f ≡ true → f ≤ so_far n
-  so_far-own zero f to holds = let is = is_frame_to plan core f holds in absurd (omega (arith, is.is.from))
-  so_far-own (suc n) f to holds =
-      let more = so_far-suc n in
-      elim (cases_lt n f) as (λ _. f ≤ so_far (suc n)) [
-        | inl late ↦ (
-            let here : suc n ≡ f = omega arith in
-            let own : cond (delivers_to plan core (suc n)) (suc n) 0 ≡ suc n = ap (λ (b : Bool). cond b (suc n) 0) (ap (delivers_to plan core) here ∙ holds) in
-            omega (arith, more, own))
-        | inr early ↦ (let before = so_far-own n f early holds in omega (arith, more, before))
-      ]
+  greatest-is : (m : ℕ) → m ≤ length items → greatest_number plan core m ≡ greatest plan 0 (take m items)
+  unfolding greatest_number
+  greatest-is m le = ap (λ (ms : List Message). fold max 0 (map message.number_of ms)) (front-is m le)
 
-  stands_front : (m n : ℕ) → take m (lane plan core) ≡ lane_so_far plan core n → Stands plan core m n
-  unfolding decided so_far
-  stands_front m n front =
-      let same : decided plan core m ≡ so_far n = ap (decided_by_all plan.history) front in
-      record { within = omega (arith, same, so_far-le n); own = λ f to holds. omega (arith, same, so_far-own n f to holds) }
+  -- one message more
+  greatest-suc : (m : ℕ) (d : Message) → m < length (lane plan core)
+      → greatest_number plan core (m + 1) ≡ max (greatest_number plan core m) (message.number_of (get_or (lane plan core) m d))
+  unfolding greatest_number
+  greatest-suc m d within =
+      let before : List Message = take m (lane plan core) in
+      let last : Message = get_or (lane plan core) m d in
+      ap (λ (ms : List Message). fold max 0 (map message.number_of ms)) (take_more (lane plan core) m d within)
+      ∙ ap (fold max 0) (map-append message.number_of before (last ∷ []))
+      ∙ fold-append max 0 (map message.number_of before) (message.number_of last ∷ [])
 
-  stands_beacon : (m n : ℕ) → take m (lane plan core) ≡ lane_so_far plan core n ++ Beacon n ∷ [] → Stands plan core m n
-  unfolding decided so_far
-  stands_beacon m n front =
-      let same : decided plan core m ≡ max (so_far n) (n - plan.history) =
-      ap (decided_by_all plan.history) front ∙ decided_by_all-append plan.history (lane_so_far plan core n) (Beacon n ∷ []) in
-      record { within = omega (arith, same, so_far-le n); own = λ f to holds. omega (arith, same, so_far-own n f to holds) }
+  -- nothing is decided above the greatest number
+  decided-under : (m : ℕ) → m ≤ length items → decided plan core m ≤ greatest_number plan core m
+  decided-under m le =
+      let few = decided-few plan 0 0 (take m items) (omega arith) in
+      omega (arith, decided-is m le, greatest-is m le)
 
-  is_next_frame : (n : ℕ) → delivers_to plan core (suc n) ≡ true → IsFrameTo plan core (frame plan (suc n))
-  is_next_frame n holds = record { is_frame = refl; is_delivered = holds }
+  module _ (m : ℕ) (it : Message) (is : slice_get (lane plan core) m ≡ Some it) where
+    abbrev here : Item
+    here = get_or items m (item.Beacon 0)
 
-  -- the messages that number n + 1 adds
-  module _ (n m : ℕ) (rest : List Message) where
-    at_added : (b d : Bool) → delivers_to plan core (suc n) ≡ d
-        → lane plan core ≡ lane_so_far plan core n ++ ((cond b (Beacon (suc n - 1) ∷ []) [] ++ cond d (frame plan (suc n) ∷ []) []) ++ rest)
-        → (i : ℕ) (e : Message) → i < length (cond b (Beacon (suc n - 1) ∷ []) [] ++ cond d (frame plan (suc n) ∷ []) []) → length (lane_so_far plan core n) + i ≡ m
-        → IsPlace plan core m (get_or (cond b (Beacon (suc n - 1) ∷ []) [] ++ cond d (frame plan (suc n) ∷ []) []) i e)
-    at_added true d holds parts zero e below at =
-        let number : suc n - 1 ≡ n = omega arith in
+    within : m < length (lane plan core)
+    within = slice_get_within (lane plan core) m it is
+
+    place : (m < length items × (it ≡ message_of plan here)) ⊎ ((m ≡ length items) × (it ≡ End (frame_count plan)))
+    unfolding lane_so_far
+    place = message-at (message_of plan) items (End (frame_count plan)) m it is
+
+    -- what is decided behind it, and the greatest number
+    pub decided-next : decided plan core (m + 1) ≡ max (decided plan core m) (decided_by plan it)
+    decided-next =
+        decided-suc plan core m it within
+        ∙ ap (λ (x : Message). max (decided plan core m) (decided_by plan x)) (get_or_from_slice_get (lane plan core) m it it is)
+
+    pub greatest-next : greatest_number plan core (m + 1) ≡ max (greatest_number plan core m) (message.number_of it)
+    greatest-next =
+        greatest-suc m it within
+        ∙ ap (λ (x : Message). max (greatest_number plan core m) (message.number_of x)) (get_or_from_slice_get (lane plan core) m it it is)
+
+    -- behind a beacon's number nothing is left that comes later
+    pub stands-beacon : (n : ℕ) → it ≡ Beacon n → Stands plan core m n
+    stands-beacon n beacon f to goes =
+        elim place as (λ _. f ≤ decided plan core m) [
+          | inl one ↦ (
+              let at : here ≡ item.Beacon n = is-beacon plan here n (sym beacon ∙ one.1) in
+              let le = delivered-before plan core m (item.Beacon 0) one.0 f goes (ap (is_frame f) at) (omega (arith, ap number_of at)) in
+              omega (arith, decided-is m (omega (arith, one.0))))
+          | inr last ↦ absurd (let e : Beacon n ≡ End (frame_count plan) = sym beacon ∙ last.1 in cc)
+        ]
+
+    -- the end has the number of the last frame, and all frames stand before it
+    pub end-number : (n : ℕ) → it ≡ End n → n ≡ frame_count plan
+    end-number n end =
+        elim place as (λ _. n ≡ frame_count plan) [
+          | inl one ↦ absurd (isnt-end plan here n (sym end ∙ one.1))
+          | inr last ↦ (let e : End n ≡ End (frame_count plan) = sym end ∙ last.1 in cc)
+        ]
+
+    pub stands-end : (n : ℕ) → it ≡ End n → IsPlan plan → Stands plan core m n
+    stands-end n end is_plan f to goes =
+        elim place as (λ _. f ≤ decided plan core m) [
+          | inl one ↦ absurd (isnt-end plan here n (sym end ∙ one.1))
+          | inr last ↦ (
+              let all : take m items ≡ items = take_all m items (omega (arith, last.0)) in
+              let le = delivered-all plan core f is_plan goes in
+              omega (arith, le, decided-is m (omega (arith, last.0)), ap (decided_from plan 0) all))
+        ]
+
+    module _ (n : ℕ) (rows : List Row) (frame-is : it ≡ Frame n rows) where
+      at-frame : (m < length items) × (here ≡ item.Frame n) × (Frame n rows ≡ frame plan n)
+      at-frame =
+          elim place as (λ _. (m < length items) × (here ≡ item.Frame n) × (Frame n rows ≡ frame plan n)) [
+            | inl one ↦ (let both = is-frame plan here n rows (sym frame-is ∙ one.1) in (one.0, both.0, both.1))
+            | inr last ↦ absurd (let e : Frame n rows ≡ End (frame_count plan) = sym frame-is ∙ last.1 in cc)
+          ]
+
+      few : m ≤ length items
+      few = let less = at-frame.0 in omega arith
+
+      -- a frame whose number is above all before it is delivered to the core
+      pub taken-frame : greatest_number plan core m < n → IsFrameTo plan core it
+      taken-frame above =
+          let goes = taken-delivered plan core m (item.Beacon 0) at-frame.0 n at-frame.1 (omega (arith, greatest-is m few)) in
+          subst (IsFrameTo plan core) (sym frame-is) (record { is_frame = at-frame.2; is_delivered = goes })
+
+      -- and the delivered frames below it stand before it
+      pub stands-frame : greatest_number plan core m < n → Stands plan core m (n - 1)
+      stands-frame above f to goes =
+          let other : eqb n f ≡ false = grind (arith, nat_tests) in
+          let le =
+          delivered-before plan core m (item.Beacon 0) at-frame.0 f goes (ap (is_frame f) at-frame.1 ∙ other)
+          (omega (arith, ap number_of at-frame.1)) in
+          omega (arith, le, decided-is m few)
+
+      -- any other frame decides nothing
+      pub passed-frame : n ≤ greatest_number plan core m → decided plan core (m + 1) ≡ decided plan core m
+      passed-frame le =
+          let decides = by (delivers plan n) refl in
+          omega (arith, decided-next, ap (decided_by plan) frame-is, decides)
+        where
+          by : (b : Bool) → delivers plan n ≡ b → cond b n 0 ≤ decided plan core m
+          by true e =
+              let there = passed-decided plan core m (item.Beacon 0) at-frame.0 n at-frame.1 (omega (arith, le, greatest-is m few)) e in
+              omega (arith, there, decided-is m few)
+          by false e = omega arith
+
+-- ---- what a core knows behind a message
+
+module _ (plan : Plan) (core m : ℕ) (it : Message) (is : slice_get (lane plan core) m ≡ Some it) (old : Told) (told : IsTold plan core m old) where
+  known-count : length old.known ≡ decided plan core m
+  known-count = ap length told.known ∙ length-entries plan core (decided plan core m)
+
+  -- what is known is what the frames up to a number tell
+  pub knows-to : (n : ℕ) → Stands plan core m n → length old.known ≤ n → Knows plan core n old.known
+  knows-to n stands little =
+      let count = known-count in
+      record {
+        final = told.known ∙ ap (entries_up_to plan core) (sym count);
+        within = little;
+        own = λ f to goes. let le = stands f to goes in omega arith;
+      }
+
+  -- a beacon more
+  pub told-beacon : (n : ℕ) (new : Told) → it ≡ Beacon n → new.known ≡ with_lost (n - plan.history) old.known → new.taken ≡ max old.taken n
+      → IsTold plan core (m + 1) new
+  told-beacon n new beacon known taken =
+      let count = known-count in
+      let top : ℕ = max n (length old.known) in
+      let stands = stands-beacon plan core m it is n beacon in
+      let knows =
+      knows-to top
+      (λ f to goes.
+      elim (cases_lt n f) as (λ _. f ≤ decided plan core m) [
+        | inl above ↦ omega arith
+        | inr before ↦ stands f before goes
+      ])
+      (omega arith) in
+      let lost = knows_lost plan core top (n - plan.history) old.known (omega arith) (λ p to f later all. omega arith) knows in
+      let len = length-with_lost (n - plan.history) old.known in
+      let all : length (with_lost (n - plan.history) old.known) ≡ decided plan core (m + 1) =
+      omega (arith, len, count, decided-next plan core m it is, ap (decided_by plan) beacon) in
+      record {
+        known = known ∙ lost.final ∙ ap (entries_up_to plan core) all;
+        taken = omega (arith, taken, told.taken, greatest-next plan core m it is, ap message.number_of beacon);
+      }
+
+  -- the end
+  pub told-end : (n : ℕ) (new : Told) → IsPlan plan → it ≡ End n → new.known ≡ with_lost n old.known → new.taken ≡ max old.taken n
+      → IsTold plan core (m + 1) new
+  told-end n new is_plan end known taken =
+      let count = known-count in
+      let number = end-number plan core m it is n end in
+      let few = decided-le plan core m in
+      let stands = stands-end plan core m it is n end is_plan in
+      let knows : Knows plan core (frame_count plan) old.known = subst (λ (k : ℕ). Knows plan core k old.known) number (knows-to n stands (omega arith)) in
+      let all : frame_count plan ≡ decided plan core (m + 1) = omega (arith, number, few, decided-next plan core m it is, ap (decided_by plan) end) in
+      record {
+        known = known ∙ ap (λ (k : ℕ). with_lost k old.known) number ∙ Knows-end plan core old.known knows ∙ ap (entries_up_to plan core) all;
+        taken = omega (arith, taken, told.taken, greatest-next plan core m it is, ap message.number_of end);
+      }
+
+  module _ (n : ℕ) (rows : List Row) (frame-is : it ≡ Frame n rows) where
+    -- a frame that is passed over
+    pub told-passed : n ≤ old.taken → IsTold plan core (m + 1) old
+    told-passed le =
+        let top = told.taken in
         record {
-          number = n;
-          stands = stands_front m n (ap (take m) parts ∙ take_at (lane_so_far plan core n) _ m (omega arith));
-          behind = inl (ap Beacon number);
-        }
-    at_added true true holds parts (suc zero) e below at =
-        let number : suc n - 1 ≡ n = omega arith in
-        let before : List Message = lane_so_far plan core n in
-        let len : length (before ++ Beacon n ∷ []) ≡ m = omega (arith, length-append before (Beacon n ∷ [])) in
-        let regrouped : lane plan core ≡ (before ++ Beacon n ∷ []) ++ (frame plan (suc n) ∷ rest) =
-        parts
-        ∙ ap (λ (k : ℕ). before ++ (Beacon k ∷ frame plan (suc n) ∷ rest)) number
-        ∙ sym (append_assoc before (Beacon n ∷ []) (frame plan (suc n) ∷ rest)) in
-        record {
-          number = n;
-          stands = stands_beacon m n (ap (take m) regrouped ∙ take_at (before ++ Beacon n ∷ []) (frame plan (suc n) ∷ rest) m len);
-          behind = inr (inl (is_next_frame n holds, refl));
-        }
-    at_added true true holds parts (suc (suc i)) e below at = absurd (omega arith)
-    at_added true false holds parts (suc i) e below at = absurd (omega arith)
-    at_added false true holds parts zero e below at =
-        record {
-          number = n;
-          stands = stands_front m n (ap (take m) parts ∙ take_at (lane_so_far plan core n) _ m (omega arith));
-          behind = inr (inl (is_next_frame n holds, refl));
-        }
-    at_added false true holds parts (suc i) e below at = absurd (omega arith)
-    at_added false false holds parts i e below at = absurd (omega arith)
-
-  by_number : (n m : ℕ) (e : Message) → n ≤ frame_count plan → m < length (lane_so_far plan core n) → IsPlace plan core m (get_or (lane plan core) m e)
-  unfolding beacon_before frame_to
-  by_number zero m e to below = let none = ap length (lane_so_far-zero plan core) in absurd (omega arith)
-  by_number (suc n) m e to below =
-      let before : List Message = lane_so_far plan core n in
-      elim (cases_lt m (length before)) as (λ _. IsPlace plan core m (get_or (lane plan core) m e)) [
-        | inl early ↦ by_number n m e (omega arith) early
-        | inr late ↦ (
-            let i : ℕ = m - length before in
-            let at : length before + i ≡ m = omega arith in
-            let len : length (lane_so_far plan core (suc n)) ≡ length before + length (added plan core (suc n)) =
-            ap length (lane_so_far-suc plan core n) ∙ length-append before (added plan core (suc n)) in
-            let within : i < length (added plan core (suc n)) = omega arith in
-            let front = lane_front plan core (suc n) to in
-            let parts : lane plan core ≡ before ++ (added plan core (suc n) ++ front.0) =
-            front.1 ∙ ap (λ (x : List Message). x ++ front.0) (lane_so_far-suc plan core n) ∙ append_assoc before (added plan core (suc n)) front.0 in
-            let there : get_or (lane plan core) m e ≡ get_or (added plan core (suc n)) i e =
-            ap (λ (k : ℕ). get_or (lane plan core) k e) (sym at) ∙ lane_at plan core n i e (omega arith) within in
-            subst (IsPlace plan core m) (sym there)
-            (at_added n m front.0 (has_beacon (suc n)) (delivers_to plan core (suc n)) refl parts i e within at))
-      ]
-
-  -- the place of each message of a lane
-  pub place_of : (m : ℕ) (e : Message) → m < length (lane plan core) → IsPlace plan core m (get_or (lane plan core) m e)
-  place_of m e below =
-      let all : List Message = lane_so_far plan core (frame_count plan) in
-      elim (cases_lt m (length all)) as (λ _. IsPlace plan core m (get_or (lane plan core) m e)) [
-        | inl early ↦ by_number (frame_count plan) m e (omega arith) early
-        | inr late ↦ (
-            let at : length all ≡ m = omega (arith, length-lane plan core) in
-            record {
-              number = frame_count plan;
-              stands = stands_front m (frame_count plan) (take_at all (End (frame_count plan) ∷ []) m at);
-              behind = inr (inr (ap (λ (k : ℕ). get_or (lane plan core) k e) (sym at) ∙ lane_at_end plan core e, refl));
-            })
-      ]
-
--- ---- what is known after the first m messages
-
-pub record KnowsAt (plan : Plan) (core m : ℕ) (known : List Entry) : Type 0 where
-  pub final : known ≡ entries_up_to plan core (length known)
-  pub decides : length known ≡ decided plan core m
-
-module _ (plan : Plan) (core m : ℕ) (known : List Entry) (at : KnowsAt plan core m known) where
-  -- so it is what the frames up to a number tell
-  pub knows_at : (n : ℕ) → Stands plan core m n → Knows plan core n known
-  knows_at n stands =
-      let same = at.decides in
-      let le = stands.within in
-      record { final = at.final; within = omega arith; own = λ f to holds. omega (arith, stands.own f to holds) }
-
-  module _ (e : Message) (below : m < length (lane plan core)) where
-    -- a frame more
-    pub KnowsAt-frame : (new : List Entry) → number_of (get_or (lane plan core) m e) ≡ decided_by plan.history (get_or (lane plan core) m e)
-        → IsFrameTo plan core (get_or (lane plan core) m e) → Knows plan core (number_of (get_or (lane plan core) m e)) new
-        → decided plan core m ≤ number_of (get_or (lane plan core) m e) → KnowsAt plan core (m + 1) new
-    KnowsAt-frame new decides frame knows before =
-        let more = decided-suc plan core m e below in
-        let own = knows.own (number_of (get_or (lane plan core) m e)) (omega arith) frame.is_delivered in
-        let within = knows.within in
-        record { final = knows.final; decides = omega (arith, more, decides, own, within, before) }
-
-    -- a beacon more
-    pub KnowsAt-beacon : (n : ℕ) → get_or (lane plan core) m e ≡ Beacon n → Stands plan core m n → KnowsAt plan core (m + 1) (with_lost (n - plan.history) known)
-    KnowsAt-beacon n is stands =
-        let more = decided-suc plan core m e below in
-        let same = at.decides in
-        record {
-          final = (Knows-beacon plan core n known (knows_at n stands)).final;
-          decides = omega (arith, more, ap (decided_by plan.history) is, length-with_lost (n - plan.history) known);
+          known = told.known ∙ ap (entries_up_to plan core) (sym (passed-frame plan core m it is n rows frame-is (omega arith)));
+          taken = omega (arith, top, greatest-next plan core m it is, ap message.number_of frame-is);
         }
 
-    -- the end
-    pub KnowsAt-end : get_or (lane plan core) m e ≡ End (frame_count plan) → Stands plan core m (frame_count plan) → KnowsAt plan core (m + 1) (with_lost (frame_count plan) known)
-    KnowsAt-end is stands =
-        let more = decided-suc plan core m e below in
-        let same = at.decides in
-        let all = Knows-end plan core known (knows_at (frame_count plan) stands) in
-        let len : length (with_lost (frame_count plan) known) ≡ frame_count plan = ap length all ∙ length-entries plan core (frame_count plan) in
-        let few = decided-le plan core m in
-        record {
-          final = all ∙ ap (entries_up_to plan core) (sym len);
-          decides = omega (arith, more, ap (decided_by plan.history) is, len, few);
-        }
+    module _ (above : old.taken < n) where
+      over : greatest_number plan core m < n
+      over = let top = told.taken in omega arith
+
+      -- a frame that is taken: it is the core's, and the core knows what the frames before it tell
+      pub is_frame-to : IsFrameTo plan core it
+      is_frame-to = taken-frame plan core m it is n rows frame-is over
+
+      decided-before : decided plan core m < n
+      decided-before = let least = decided-under plan core m (few plan core m it is n rows frame-is) in let top = over in omega arith
+
+      pub knows-before : Knows plan core (n - 1) old.known
+      knows-before =
+          let count = known-count in
+          let less = decided-before in
+          knows-to (n - 1) (stands-frame plan core m it is n rows frame-is over) (omega arith)
+
+      pub told-frame : (new : Told) → Knows plan core n new.known → new.taken ≡ max old.taken n → IsTold plan core (m + 1) new
+      told-frame new knows taken =
+          let number = ap message.number_of frame-is in
+          let goes : delivers_to plan core n ≡ true = ap (delivers_to plan core) (sym number) ∙ is_frame-to.is_delivered in
+          let delivered : delivers plan n ≡ true = ((Decides-delivered_to plan core n).0 goes).is.delivered in
+          let le = knows.own n (omega arith) goes in
+          let within = knows.within in
+          let decides : decided_by plan it ≡ n = ap (decided_by plan) frame-is ∙ ap (λ (b : Bool). cond b n 0) delivered in
+          let less = decided-before in
+          let all : length new.known ≡ decided plan core (m + 1) = omega (arith, decided-next plan core m it is, decides) in
+          record {
+            known = knows.final ∙ ap (entries_up_to plan core) all;
+            taken = omega (arith, taken, told.taken, greatest-next plan core m it is, number);
+          }
+
+-- a core that took nothing
+pub told-none : (plan : Plan) (core : ℕ) → IsTold plan core 0 untold
+unfolding greatest_number entries_up_to
+told-none plan core = record { known = ap (entries_up_to plan core) (sym (decided-zero plan core)); taken = refl }
+
+-- a core that took all
+pub told-whole : (plan : Plan) (core m : ℕ) (it : Told) → length (lane plan core) ≤ m → IsTold plan core m it
+    → it.known ≡ entries_up_to plan core (frame_count plan)
+told-whole plan core m it all told = told.known ∙ ap (entries_up_to plan core) (decided-whole plan core m all)

@@ -1,5 +1,5 @@
 -- Where all cores know what they will ever know, a packet's row is kept just where one of them knows it.
-use Rattle.std.proofs.Common.{◌≡◌, ℕ, ◌+◌, ◌-◌, ◌<◌, ◌≤◌, List, [], length, get_or, take, drop, Option, Some, None, inl, inr, arith, sym, ap, subst, ◌∙◌}
+use Rattle.std.proofs.Common.{◌≡◌, ℕ, ◌+◌, ◌-◌, ◌<◌, ◌≤◌, List, length, get_or, take, drop, Option, Some, None, inl, inr, arith, sym, ap, subst, ◌∙◌}
 use Rattle.std.specs.Prelude.{IfSome, IfNone}
 use Rattle.std.specs.Option.{option_copied}
 use Rattle.std.specs.Borrow.{Bor}
@@ -12,17 +12,18 @@ use Rattle.scr_plan.specs.Delivered.{delivers_to}
 use Rattle.scr_plan.specs.FinalEntry.{final_entry}
 use Rattle.scr_replica.specs.declared.entry.Entry.{Entry}
 use Rattle.scr_replica.specs.declared.entry.Entry.TheVariants.{Lost}
-use Rattle.scr_replica.specs.Entries.{row_in, entry_of, entries_up_to, row_at, AllFinal}
+use Rattle.scr_replica.specs.Entries.{row_in, entry_of, entries_up_to}
+use Rattle.scr_replica.specs.Told.{Told, untold, row_at, AllFinal}
 use Rattle.scr_replica.specs.OneCore.{kept_row}
 use Rattle.scr_replica.proofs.Knowing.{length-entries}
 use Rattle.scr_replica.proofs.Packets.{row_in-entry_with, known-kept, unknown-unkept}
 
 -- the cores from one on, and those before one
-pub row_at-drop : (cores : List (List Entry)) (turn core place : ℕ) → row_at (drop turn cores) core place ≡ row_at cores (turn + core) place
-row_at-drop cores turn core place = ap (λ (x : List Entry). row_in (get_or x place Lost)) (get_or-drop turn cores core [])
+pub row_at-drop : (cores : List Told) (turn core place : ℕ) → row_at (drop turn cores) core place ≡ row_at cores (turn + core) place
+row_at-drop cores turn core place = ap (λ (x : Told). row_in (get_or x.known place Lost)) (get_or-drop turn cores core untold)
 
-pub row_at-take : (cores : List (List Entry)) (turn core place : ℕ) → core < turn → row_at (take turn cores) core place ≡ row_at cores core place
-row_at-take cores turn core place below = ap (λ (x : List Entry). row_in (get_or x place Lost)) (get_or-take turn cores core [] below)
+pub row_at-take : (cores : List Told) (turn core place : ℕ) → core < turn → row_at (take turn cores) core place ≡ row_at cores core place
+row_at-take cores turn core place below = ap (λ (x : Told). row_in (get_or x.known place Lost)) (get_or-take turn cores core untold below)
 
 module _ (plan : Plan) (core place : ℕ) (within : place < frame_count plan) where
   -- the entry at a place
@@ -38,7 +39,7 @@ module _ (plan : Plan) (core place : ℕ) (within : place < frame_count plan) wh
       by_row None e = tt
       by_row (Some row) e = known-kept plan (place + 1) (omega arith) (omega arith) core row (sym e)
 
-module _ (plan : Plan) (cores : List (List Entry)) (final : AllFinal plan cores) (place : ℕ) (within : place < frame_count plan) where
+module _ (plan : Plan) (cores : List Told) (final : AllFinal plan cores) (place : ℕ) (within : place < frame_count plan) where
   row_at-final : (core : ℕ) → core < length cores → row_at cores core place ≡ final_entry plan core (place + 1)
   row_at-final core below =
       let count = final.count in
@@ -57,38 +58,40 @@ module _ (plan : Plan) (cores : List (List Entry)) (final : AllFinal plan cores)
       (λ core below. let within_all : core < length cores = omega arith in sym (row_at-final core within_all) ∙ none core within_all))
 
   -- each core's list has the place
-  pub long : (core : ℕ) → core < length cores → place < length (get_or cores core [])
+  pub long : (core : ℕ) → core < length cores → place < length (get_or cores core untold).known
   long core below =
       let count = final.count in
       omega (arith, ap length (final.each core (omega arith)), length-entries plan core (frame_count plan))
 
   -- in two parts
   module _ (turn : ℕ) (few : turn ≤ length cores) where
-    abbrev behind : List (List Entry)
+    abbrev behind : List Told
     behind = take (length cores - turn) (drop turn cores)
 
     behind_is : behind ≡ drop turn cores
     behind_is = let len = length-drop turn cores in take_all (length cores - turn) (drop turn cores) (omega arith)
 
-    abbrev IsLong : List (List Entry) → Type 0
-    IsLong part = (core : ℕ) → core < length part → place < length (get_or part core [])
+    abbrev IsLong : List Told → Type 0
+    IsLong part = (core : ℕ) → core < length part → place < length (get_or part core untold).known
 
     pub long_behind : IsLong behind
     long_behind =
         subst IsLong (sym behind_is)
         (λ core below.
-        let len : length (get_or (drop turn cores) core []) ≡ length (get_or cores (turn + core) []) = ap length (get_or-drop turn cores core []) in
+        let len : length (get_or (drop turn cores) core untold).known ≡ length (get_or cores (turn + core) untold).known =
+        ap (λ (x : Told). length x.known) (get_or-drop turn cores core untold) in
         let all = long (turn + core) (omega (arith, length-drop turn cores)) in
         omega arith)
 
     pub long_before : IsLong (take turn cores)
     long_before core below =
         let counted = length-take-le turn cores few in
-        let len : length (get_or (take turn cores) core []) ≡ length (get_or cores core []) = ap length (get_or-take turn cores core [] (omega arith)) in
+        let len : length (get_or (take turn cores) core untold).known ≡ length (get_or cores core untold).known =
+        ap (λ (x : Told). length x.known) (get_or-take turn cores core untold (omega arith)) in
         let all = long core (omega arith) in
         omega arith
 
-    abbrev Finds : List (List Entry) → Type 0
+    abbrev Finds : List Told → Type 0
     Finds part = (core : ℕ) (row : Row) → core < length part → row_at part core place ≡ Some row → Some row ≡ kept_row plan (place + 1)
 
     pub found_behind : Finds behind
@@ -102,7 +105,7 @@ module _ (plan : Plan) (cores : List (List Entry)) (final : AllFinal plan cores)
         let len = length-take-le turn cores few in
         found core row (omega arith) (sym (row_at-take cores turn core place (omega arith)) ∙ there)
 
-    abbrev HasNone : List (List Entry) → Type 0
+    abbrev HasNone : List Told → Type 0
     HasNone part = (core : ℕ) → core < length part → row_at part core place ≡ None
 
     pub none_in_parts : IsPlan plan → HasNone behind → HasNone (take turn cores) → None ≡ kept_row plan (place + 1)

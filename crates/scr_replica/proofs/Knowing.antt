@@ -85,31 +85,8 @@ module _ (plan : Plan) (core : ℕ) where
 
   -- ---- what is known
 
-  -- nothing at the start
-  pub Knows-none : Knows plan core 0 []
-  unfolding entries_up_to
-  Knows-none = record {
-    final = refl;
-    within = omega arith;
-    own = λ frame to holds. let is = is_frame_to frame holds in absurd (omega (arith, is.is.from));
-  }
-
-  -- a frame that isn't the core's own
-  pub Knows-other : (n p : ℕ) (known : List Entry) → n + 1 ≡ p → delivers_to plan core p ≡ false → Knows plan core n known → Knows plan core p known
-  Knows-other n p known next fails knows =
-      let within = knows.within in
-      record {
-        final = knows.final;
-        within = omega arith;
-        own = λ frame to holds.
-            elim (cases_lt n frame) as (λ _. frame ≤ length known) [
-              | inl later ↦ (let same : p ≡ frame = omega arith in let no_longer = ap (delivers_to plan core) same in absurd cc)
-              | inr before ↦ knows.own frame before holds
-            ];
-      }
-
   -- so many packets are lost at last
-  knows_lost : (n number : ℕ) (known : List Entry) → number ≤ n
+  pub knows_lost : (n number : ℕ) (known : List Entry) → number ≤ n
       → ((p : ℕ) → p ≤ number → (f : ℕ) → n < f → f ≤ frame_count plan → p < first_carried plan.history f)
       → Knows plan core n known → Knows plan core n (with_lost number known)
   knows_lost n number known few none knows =
@@ -120,10 +97,6 @@ module _ (plan : Plan) (core : ℕ) where
         within = omega arith;
         own = λ frame to holds. let le = knows.own frame to holds in omega arith;
       }
-
-  -- a beacon
-  pub Knows-beacon : (n : ℕ) (known : List Entry) → Knows plan core n known → Knows plan core n (with_lost (n - plan.history) known)
-  Knows-beacon n known knows = knows_lost n (n - plan.history) known (omega arith) (λ p to f later all. omega arith) knows
 
   -- the end
   pub Knows-end : (known : List Entry) → Knows plan core (frame_count plan) known

@@ -1,12 +1,15 @@
 pub mod Lost
 pub mod Knowing
 pub mod Frames
-pub mod Passing
+pub mod Awaiting
+pub mod Begun
 pub mod Packets
 pub mod Found
 pub mod Taking
 pub mod InOrder
 pub mod OneCoreOfAll
+pub mod LaneItems
+pub mod Taken
 pub mod Deciding
 pub mod Undivided
 pub mod Counted

@@ -1,6 +1,6 @@
 -- The numbers of the verdicts are those of the delivered frames.
-use Rattle.std.proofs.Common.{◌≡◌, ℕ, zero, suc, ◌+◌, ◌-◌, ◌<◌, ◌≤◌, Bool, true, false, cond, List, [], ◌∷◌, ◌++◌, map, Option, Some, None, get_or, refl, ap, ◌∙◌, arith, filter_map, filter, option_to_list}
-use Rattle.std.specs.List.{range_with_len, slice_get, cons_option}
+use Rattle.std.proofs.Common.{◌≡◌, ℕ, zero, suc, ◌+◌, ◌-◌, ◌≤◌, Bool, true, false, cond, List, ◌∷◌, map, Option, Some, None, get_or, refl, ap, arith, filter_map, filter}
+use Rattle.std.specs.List.{range_with_len, cons_option}
 use Rattle.std.specs.Option.{option_map}
 use Rattle.std.proofs.lemmas.Option.{slice_get-get_or}
 use Rattle.scr_base.specs.declared.row.Row.{Row}

@@ -1,4 +1,4 @@
--- Where no frame is dropped, the one-core answer is over all rows.
+-- Where the link does nothing, the one-core answer is over all rows.
 use Rattle.std.proofs.Common.{◌≡◌, ℕ, zero, suc, ◌+◌, ◌-◌, ◌≤◌, Bool, true, cond, List, [], ◌∷◌, ◌++◌, length, get_or, take, Option, Some, None, option_to_list, arith, refl, sym, ap, ◌∙◌}
 use Rattle.std.specs.Prelude.{filter_map, slice_get}
 use Rattle.std.specs.List.{range_with_len}
@@ -10,9 +10,9 @@ use Rattle.scr_base.specs.declared.row.Verdict.{Verdict}
 use Rattle.scr_plan.specs.declared.given.Given.{Given}
 use Rattle.scr_plan.specs.Delivered.{delivers}
 use Rattle.scr_plan.specs.Kept.{keeps}
+use Rattle.scr_plan.specs.Link.{empty_link}
 use Rattle.scr_plan.specs.Plan.{Plan, frame_count, row_of}
-use Rattle.scr_plan.proofs.Delivering.{delivered-no_drops}
-use Rattle.scr_plan.proofs.Packets.{kept-no_drops}
+use Rattle.scr_plan.proofs.EmptyLink.{delivered-all, kept-all}
 use Rattle.scr_replica.specs.OneCore.{kept_row, kept_rows, entries, given_with, given_at, given_in, verdicts, all_verdicts}
 use Rattle.scr_replica.proofs.Taking.{filter_map-more, kept_rows-zero, kept_rows-more}
 
@@ -28,12 +28,12 @@ same_up_to h k (suc n) same =
 zero_row : Row
 zero_row = record { w0 = 0; w1 = 0; w2 = 0; w3 = 0; w4 = 0; w5 = 0; w6 = 0 }
 
-module _ (plan : Plan) (none : plan.drops ≡ []) where
+module _ (plan : Plan) (none : plan.link ≡ empty_link) where
   all_kept : (p : ℕ) → 1 ≤ p → p ≤ frame_count plan → keeps plan p ≡ true
-  all_kept p from to = kept-no_drops plan p none from to
+  all_kept p from to = kept-all plan none p from to
 
   all_delivered : (n : ℕ) → 1 ≤ n → n ≤ frame_count plan → delivers plan n ≡ true
-  all_delivered n from to = delivered-no_drops plan n none from to
+  all_delivered n from to = delivered-all plan none n from to
 
   -- the kept rows are all rows
   pub kept_rows-all : (p : ℕ) → p ≤ frame_count plan → kept_rows plan p ≡ take p plan.rows

@@ -4,7 +4,7 @@ use Rattle.std.specs.Prelude.{is_some}
 use Rattle.std.proofs.lemmas.Bool.{false_from_ne_true}
 use Rattle.std.proofs.lemmas.Option.{slice_get-get_or}
 use Rattle.scr_base.specs.declared.row.Row.{Row}
-use Rattle.scr_plan.specs.Delivered.{core_number, delivers_to}
+use Rattle.scr_plan.specs.Delivered.{delivers_to}
 use Rattle.scr_plan.specs.Plan.{Plan, IsPlan, frame_count, row_of}
 use Rattle.scr_plan.specs.Kept.{carries_to, keeps}
 use Rattle.scr_plan.specs.FinalEntry.{final_entry}

@@ -19,7 +19,8 @@ use Rattle.scr_plan.specs.Kept.{carries_to, keeps}
 use Rattle.scr_plan.proofs.FromOne.{range-suc, count-suc}
 use Rattle.scr_plan.proofs.Packets.{kept-carried, carried-own}
 use Rattle.scr_replica.specs.declared.entry.Entry.{Entry}
-use Rattle.scr_replica.specs.Entries.{AllFinal, entries_up_to}
+use Rattle.scr_replica.specs.Entries.{entries_up_to}
+use Rattle.scr_replica.specs.Told.{Told, untold, AllFinal}
 use Rattle.scr_replica.specs.OneCore.{kept_row, kept_rows, given_with, given_to, course_up_to}
 
 cons_none : {Y : Type 0} (o : Option Y) → cons_option o [] ≡ option_to_list o
@@ -57,11 +58,11 @@ unfolding course_up_to
 course-zero verdict_after plan core = refl
 
 -- the core's own list
-pub own_entries : (plan : Plan) (cores : List (List Entry)) (core : ℕ) (items d : List Entry) → AllFinal plan cores → core < plan.cores
-    → items ≡ get_or cores core d → items ≡ entries_up_to plan core (frame_count plan)
+pub own_entries : (plan : Plan) (cores : List Told) (core : ℕ) (items : List Entry) (d : Told) → AllFinal plan cores → core < plan.cores
+    → items ≡ (get_or cores core d).known → items ≡ entries_up_to plan core (frame_count plan)
 own_entries plan cores core items d final below is =
     let count = final.count in
-    is ∙ get_or_default cores core d [] (omega arith) ∙ final.each core below
+    is ∙ ap (λ (x : Told). x.known) (get_or_default cores core d untold (omega arith)) ∙ final.each core below
 
 -- a row that was found
 pub is_some-copied : (row : Option (Bor Row)) → is_some row ≡ is_some (option_copied row)

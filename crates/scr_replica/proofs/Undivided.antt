@@ -8,8 +8,7 @@ use Rattle.scr_plan.specs.declared.given.Given.{Given}
 use Rattle.scr_plan.specs.Plan.{row_of}
 use Rattle.scr_plan.specs.Delivered.{delivers}
 use Rattle.scr_plan.specs.Kept.{keeps}
-use Rattle.scr_plan.proofs.Delivering.{delivered-no_drops}
-use Rattle.scr_plan.proofs.Packets.{kept-no_drops}
+use Rattle.scr_plan.proofs.EmptyLink.{delivered-all, kept-all}
 use Rattle.scr_replica.specs.OneCore.{undivided, kept_row, kept_rows, given_at, verdicts, entries}
 
 -- what `g` gives of each row and of those before it
@@ -54,7 +53,7 @@ kept_rows-front front rest =
     numbered (kept_row (undivided (front ++ rest))) (λ _ row. row) (front ++ rest) [] front rest refl
     (λ a row b parts.
     let kept : keeps (undivided (front ++ rest)) (length a + 1) ≡ true =
-    kept-no_drops (undivided (front ++ rest)) (length a + 1) refl (omega arith) (rw parts (count_of a row b)) in
+    kept-all (undivided (front ++ rest)) refl (length a + 1) (omega arith) (rw parts (count_of a row b)) in
     rw kept (rw parts (place_of a row b)))
     ∙ gathered-rows [] front
 
@@ -69,7 +68,7 @@ module _ (verdict_after : List Row → Row → Verdict) where
   verdicts-undivided rows = numbered (given_at verdict_after (undivided rows)) given_behind rows [] rows [] (sym (append-nil rows))
       (λ a row b parts.
       let sent : delivers (undivided rows) (length a + 1) ≡ true =
-      delivered-no_drops (undivided rows) (length a + 1) refl (omega arith) (rw parts (count_of a row b)) in
+      delivered-all (undivided rows) refl (length a + 1) (omega arith) (rw parts (count_of a row b)) in
       let number : length a + 1 - 1 ≡ length a = omega arith in
       let before : kept_rows (undivided rows) (length a + 1 - 1) ≡ a = rw (number, parts) (kept_rows-front a (row ∷ b)) in
       let is_row : row_of (undivided rows) (length a + 1) ≡ Some row = rw parts (place_of a row b) in

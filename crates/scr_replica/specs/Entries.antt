@@ -1,8 +1,8 @@
 -- What a core knows of the packets by the frames that are delivered to it.
-use Rattle.std.specs.Prelude.{◌≡◌, ℕ, ◌-◌, ◌<◌, ◌≤◌, Bool, true, false, List, [], ◌++◌, length, map, replicate, slice_index_or, Option, Some, None, if◌then◌else◌}
+use Rattle.std.specs.Prelude.{◌≡◌, ℕ, ◌-◌, ◌≤◌, Bool, true, false, List, ◌++◌, length, map, replicate, Option, Some, None, if◌then◌else◌}
 use Rattle.std.specs.List.{range_with_len}
 use Rattle.scr_base.specs.declared.row.Row.{Row}
-use Rattle.scr_plan.specs.Plan.{Plan, frame_count}
+use Rattle.scr_plan.specs.Plan.{Plan}
 use Rattle.scr_plan.specs.Delivered.{delivers_to}
 use Rattle.scr_plan.specs.FinalEntry.{final_entry}
 use Rattle.scr_wire.specs.declared.message.Message.{Message}
@@ -51,17 +51,3 @@ pub record IsFrameTo (plan : Plan) (core : ℕ) (message : Message) : Type 0 whe
 -- what is known, where all unknown packets up to a number are lost
 abbrev pub with_lost : ℕ → List Entry → List Entry
 with_lost number known = known ++ replicate (number - length known) Lost
-
--- what each core knows that was given all its frames up to n, the cores in order
-pub record AllKnow (plan : Plan) (n : ℕ) (cores : List (List Entry)) : Type 0 where
-  pub count : length cores ≡ plan.cores
-  pub each : (core : ℕ) → core < plan.cores → Knows plan core n (slice_index_or cores core [])
-
--- what each core knows that was given its whole lane
-pub record AllFinal (plan : Plan) (cores : List (List Entry)) : Type 0 where
-  pub count : length cores ≡ plan.cores
-  pub each : (core : ℕ) → core < plan.cores → slice_index_or cores core [] ≡ entries_up_to plan core (frame_count plan)
-
--- the row that a core knows of the packet at a place
-abbrev pub row_at : List (List Entry) → (core place : ℕ) → Option Row
-row_at cores core place = row_in (slice_index_or (slice_index_or cores core []) place Lost)

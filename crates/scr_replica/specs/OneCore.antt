@@ -1,12 +1,13 @@
 -- The one-core answer of a plan: one core takes the rows of the kept packets in order, each once, and the answer is the
 -- verdict of each delivered frame's packet, and how many entries there are at the end. A program is given by its verdict
 -- of a row that comes after a list of rows, and by its count of entries after such a list.
-use Rattle.std.specs.Prelude.{ℕ, ◌-◌, List, [], length, take, Option, None, filter_map, if◌then◌else◌}
+use Rattle.std.specs.Prelude.{ℕ, ◌-◌, List, length, take, Option, None, filter_map, if◌then◌else◌}
 use Rattle.std.specs.List.{range_with_len, slice_get}
 use Rattle.std.specs.Option.{option_map}
 use Rattle.scr_base.specs.declared.row.Row.{Row}
 use Rattle.scr_base.specs.declared.row.Verdict.{Verdict}
 use Rattle.scr_plan.specs.declared.given.Given.{Given}
+use Rattle.scr_plan.specs.Link.{empty_link}
 use Rattle.scr_plan.specs.Plan.{Plan, frame_count, row_of}
 use Rattle.scr_plan.specs.Delivered.{delivers, delivers_to}
 use Rattle.scr_plan.specs.Kept.{keeps}
@@ -48,7 +49,7 @@ module _ (verdict_after : List Row → Row → Verdict) where
   abbrev pub course : Plan → (core : ℕ) → List Given
   course plan core = course_up_to plan core (frame_count plan)
 
-  -- Where no frame is dropped, the same can be said over the rows alone: the verdict of packet n, where there is such a
+  -- Where the link does nothing, the same can be said over the rows alone: the verdict of packet n, where there is such a
   -- packet, comes after all rows before it.
   abbrev pub given_in : List Row → ℕ → Option Given
   given_in rows n =
@@ -59,4 +60,4 @@ module _ (verdict_after : List Row → Row → Verdict) where
 
 -- the plan of a run where one core is given every frame
 abbrev pub undivided : List Row → Plan
-undivided rows = record { rows = rows; cores = 1; history = 0; drops = [] }
+undivided rows = record { rows = rows; cores = 1; history = 0; link = empty_link }

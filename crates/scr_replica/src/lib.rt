@@ -31,6 +31,7 @@ mod filling;
 mod gathered;
 mod known;
 mod laws;
+mod listener;
 mod merging;
 mod phases;
 mod replay;

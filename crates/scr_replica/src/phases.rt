@@ -2,12 +2,12 @@ ghost use Rattle.std.specs.Prelude.{◌≡◌, ◌≤◌, map, length, IfOk};
 ghost use Rattle.std.specs.List.{range_with_len};
 ghost use Rattle.scr_plan.specs.Counts.{plan_counts};
 ghost use Rattle.scr_replica.specs.OneCore.{verdicts, entries};
-ghost use Rattle.scr_replica.specs.Entries.{AllFinal};
+ghost use Rattle.scr_replica.specs.Told.{AllFinal};
 ghost use Rattle.scr_replica.specs.Answers.{core_answers};
 
 use crate::filling::filled;
 use crate::gathered::{CoreResult, Gathered};
-use crate::known::Known;
+use crate::listener::Listener;
 use crate::merging::gather;
 use crate::replay::replay;
 use scr_base::OutOfMemory;
@@ -20,7 +20,7 @@ fn results_of<P: Program>(
     alloc: Global,
     settings: &P::Settings,
     plan: &RunPlan,
-    cores: &[Known],
+    cores: &[Listener],
 ) -> Result<Vec<CoreResult>, OutOfMemory>
     requires { AllFinal plan.now cores.now }
     ensures answers { IfOk result (λ results. results.items ≡ core_answers (P.verdict_after settings.now) (P.count_after settings.now) plan.now) }

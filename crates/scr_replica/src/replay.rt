@@ -2,25 +2,26 @@ ghost use Rattle.std.specs.Prelude.{◌≡◌, ◌+◌, ◌<◌, ◌^◌, ◌++�
 ghost use Rattle.std.specs.Option.{option_copied, option_map};
 ghost use Rattle.scr_base.specs.declared.row.Row.{Row};
 ghost use Rattle.scr_replica.specs.OneCore.{kept_row};
-ghost use Rattle.scr_replica.specs.Entries.{AllFinal, row_in, row_at, is_delivered};
+ghost use Rattle.scr_replica.specs.Entries.{row_in, is_delivered};
+ghost use Rattle.scr_replica.specs.Told.{untold, AllFinal, row_at};
 ghost use Rattle.scr_replica.specs.Answers.{core_answer};
 
 use crate::entry::Entry;
 use crate::gathered::CoreResult;
-use crate::known::Known;
+use crate::listener::Listener;
 use scr_base::{OutOfMemory, Row};
 use scr_plan::{CoreCounts, Given, RunPlan, core_of};
 use scr_program::Program;
 use std::alloc::Global;
 
 // The row of the packet at this place that one of these cores knows.
-fn first_row(cores: &[Known], place: usize) -> Option<&Row>
-    requires { (core : ℕ) → core < length cores.now → place < length (slice_index_or cores.now core []) }
+fn first_row(cores: &[Listener], place: usize) -> Option<&Row>
+    requires { (core : ℕ) → core < length cores.now → place < length (slice_index_or cores.now core untold).known }
     ensures some { IfSome result (λ row. (core : ℕ) × (core < length cores.now) × (row_at cores.now core place ≡ Some row.now)) }
     ensures none { IfNone result ((core : ℕ) → core < length cores.now → row_at cores.now core place ≡ None) }
 {
-    for known in cores {
-        if let Some(row) = known.entries()[place].row() {
+    for core in cores {
+        if let Some(row) = core.entries()[place].row() {
             return Some(row);
         }
     }
@@ -28,7 +29,7 @@ fn first_row(cores: &[Known], place: usize) -> Option<&Row>
 }
 
 // The row of the packet at this place that any core knows. The core whose turn it was is asked first: it mostly knows.
-fn any_row<'a>(plan: &RunPlan, cores: &'a [Known], place: usize) -> Option<&'a Row>
+fn any_row<'a>(plan: &RunPlan, cores: &'a [Listener], place: usize) -> Option<&'a Row>
     requires known { AllFinal plan.now cores.now }
     requires of_the_run { place < length plan.now.rows }
     ensures { option_copied result ≡ kept_row plan.now (place + 1) }
@@ -44,7 +45,7 @@ fn any_row<'a>(plan: &RunPlan, cores: &'a [Known], place: usize) -> Option<&'a R
 // The row of the packet at this place, where it is kept: the core's own entry has it, or a peer knows it.
 fn resolved<'a>(
     plan: &RunPlan,
-    cores: &'a [Known],
+    cores: &'a [Listener],
     entry: &'a Entry,
     place: usize,
 ) -> Option<&'a Row>
@@ -116,7 +117,7 @@ pub(crate) fn replay<P: Program>(
     alloc: Global,
     settings: &P::Settings,
     plan: &RunPlan,
-    cores: &[Known],
+    cores: &[Listener],
     core: u32,
 ) -> Result<CoreResult, OutOfMemory>
     requires known { AllFinal plan.now cores.now }

@@ -4,7 +4,7 @@ use crate::{Gathered, run_phases};
 use scr_base::{Row, Verdict};
 use scr_bucket::{Bucket, BucketSettings};
 use scr_ddos::{Ddos, DdosSettings};
-use scr_plan::{CoreCounts, Drops, Given, RunPlan};
+use scr_plan::{CoreCounts, Delays, Drops, Given, Link, RunPlan};
 use scr_program::ZERO_ROW;
 use std::alloc::Global;
 use std::process::Abort;
@@ -26,11 +26,28 @@ struct Case<'a> {
     cores: u32,
     history: u32,
     drops: &'a [u8],
+    repeats: &'a [u8],
+    delays: &'a [u8],
     first: &'a [(u32, u8)],
     totals: (usize, usize),
     lines: &'a [(u32, u32, u32, u32)],
     flows: u64,
 }
+
+// Four packets on two cores, each with its own row alone, of which two pass.
+const FOUR: Case = Case {
+    frames: 4,
+    threshold: b"2",
+    cores: 2,
+    history: 0,
+    drops: b"",
+    repeats: b"",
+    delays: b"",
+    first: &[(1, 0), (2, 0), (3, 1), (4, 1)],
+    totals: (2, 2),
+    lines: &[(2, 2, 2, 0), (2, 2, 2, 0)],
+    flows: 1,
+};
 
 const NONE: (u32, u32, u32, u32) = (0, 0, 0, 0);
 
@@ -38,69 +55,48 @@ const IDLE: (u32, u32, u32, u32) = (0, 0, 3, 0);
 
 const CASES: [Case; 9] = [
     Case {
-        frames: 4,
-        threshold: b"2",
         cores: 1,
-        history: 0,
-        drops: b"",
-        first: &[(1, 0), (2, 0), (3, 1), (4, 1)],
-        totals: (2, 2),
         lines: &[(4, 4, 0, 0)],
-        flows: 1,
+        ..FOUR
     },
     Case {
-        frames: 4,
-        threshold: b"2",
-        cores: 2,
-        history: 0,
         drops: b"2",
         first: &[(1, 0), (3, 0), (4, 1)],
         totals: (2, 1),
         lines: &[(2, 2, 1, 1), (1, 1, 2, 1)],
-        flows: 1,
+        ..FOUR
     },
     Case {
-        frames: 4,
-        threshold: b"2",
-        cores: 2,
         history: 1,
         drops: b"2",
         first: &[(1, 0), (3, 1), (4, 1)],
         totals: (1, 2),
         lines: &[(2, 3, 1, 0), (1, 2, 2, 0)],
-        flows: 1,
+        ..FOUR
     },
     Case {
         frames: 0,
-        threshold: b"2",
         cores: 16,
         history: 15,
-        drops: b"",
         first: &[],
         totals: (0, 0),
-        lines: &[
-            NONE, NONE, NONE, NONE, NONE, NONE, NONE, NONE, NONE, NONE, NONE, NONE, NONE, NONE,
-            NONE, NONE,
-        ],
+        lines: &[NONE; 16],
         flows: 0,
+        ..FOUR
     },
     Case {
-        frames: 4,
-        threshold: b"2",
-        cores: 2,
         history: 1,
         drops: b"1-4",
         first: &[],
         totals: (0, 0),
         lines: &[(0, 0, 0, 4), (0, 0, 0, 4)],
         flows: 0,
+        ..FOUR
     },
     Case {
         frames: 3,
-        threshold: b"2",
         cores: 16,
         history: 15,
-        drops: b"",
         first: &[(1, 0), (2, 0), (3, 1)],
         totals: (2, 1),
         lines: &[
@@ -121,29 +117,24 @@ const CASES: [Case; 9] = [
             IDLE,
             IDLE,
         ],
-        flows: 1,
+        ..FOUR
     },
     Case {
         frames: 5,
-        threshold: b"2",
-        cores: 2,
         history: 64,
-        drops: b"",
         first: &[(1, 0), (2, 0), (3, 1), (4, 1), (5, 1)],
         totals: (2, 3),
         lines: &[(3, 5, 0, 0), (2, 4, 1, 0)],
-        flows: 1,
+        ..FOUR
     },
     Case {
         frames: 600,
         threshold: b"100",
-        cores: 2,
-        history: 0,
         drops: b"2-600/2",
         first: &[(1, 0), (3, 0), (5, 0)],
         totals: (100, 200),
         lines: &[(300, 300, 0, 300), (0, 0, 300, 300)],
-        flows: 1,
+        ..FOUR
     },
     Case {
         frames: 1000,
@@ -159,23 +150,69 @@ const CASES: [Case; 9] = [
             (166, 664, 336, 0),
             (167, 668, 332, 0),
         ],
-        flows: 1,
+        ..FOUR
     },
 ];
 
+// Links that also repeat and delay. Frame 1 comes behind frame 3 of its core, then in time, and each frame twice. Frame
+// 256 comes behind the beacon of its number, and frame 255 before it. Last, core 0 is given frames 3, 3, 1 and 5.
+const LINKS: [Case; 6] = [
+    Case {
+        delays: b"1:3",
+        first: &[(2, 0), (3, 0), (4, 1)],
+        totals: (2, 1),
+        lines: &[(1, 1, 2, 1), (2, 2, 1, 1)],
+        ..FOUR
+    },
+    Case {
+        delays: b"1:1",
+        ..FOUR
+    },
+    Case {
+        repeats: b"1-4",
+        ..FOUR
+    },
+    Case {
+        frames: 600,
+        delays: b"256:1",
+        totals: (2, 597),
+        lines: &[(300, 300, 299, 1), (299, 299, 300, 1)],
+        ..FOUR
+    },
+    Case {
+        frames: 600,
+        delays: b"255:1",
+        totals: (2, 598),
+        lines: &[(300, 300, 300, 0), (300, 300, 300, 0)],
+        ..FOUR
+    },
+    Case {
+        frames: 6,
+        history: 1,
+        drops: b"2",
+        repeats: b"3",
+        delays: b"1:2",
+        first: &[(3, 0), (4, 1), (5, 1), (6, 1)],
+        totals: (1, 3),
+        lines: &[(2, 4, 1, 1), (2, 4, 1, 1)],
+        ..FOUR
+    },
+];
+
+// The link that a case is run over.
+fn link_of(alloc: Global, case: &Case) -> Result<Link, Fail> {
+    let drops = Drops::read(alloc, case.drops)?;
+    let repeats = Drops::read(alloc, case.repeats)?;
+    let delays = Delays::read(alloc, case.delays)?;
+    Ok(Link::make(alloc, drops, repeats, delays))
+}
+
 // A plan of these rows, where the numbers are in range.
-fn plan_of(
-    alloc: Global,
-    rows: Vec<Row>,
-    cores: u32,
-    history: u32,
-    drops: &[u8],
-) -> Result<RunPlan, Fail> {
-    let drops = Drops::read(alloc, drops)?;
+fn plan_of(rows: Vec<Row>, cores: u32, history: u32, link: Link) -> Result<RunPlan, Fail> {
     if rows.len() > 1_000_000 || cores < 1 || cores > 16 || history > 64 {
         return Err("a plan".into());
     }
-    Ok(RunPlan::make(rows, cores, history, drops))
+    Ok(RunPlan::make(rows, cores, history, link))
 }
 
 fn line_of(counts: &CoreCounts) -> (u32, u32, u32, u32) {
@@ -214,26 +251,41 @@ fn total(gathered: &Gathered, code: u8) -> usize {
         .count()
 }
 
+// Runs a case, and compares.
+fn assert_case(rt: &impl Abort, alloc: Global, case: &Case) -> Result<(), Fail> {
+    let mut rows = Vec::new(alloc);
+    for _ in 0..case.frames {
+        rows.push(A)?;
+    }
+    let link = link_of(alloc, case)?;
+    let plan = plan_of(rows, case.cores, case.history, link)?;
+    let mut settings = DdosSettings::new(4096);
+    assert_eq!(rt; settings.set(b"threshold", case.threshold), Ok(()));
+    let gathered = run_phases::<Ddos>(alloc, &settings, &plan)?;
+    assert_first(rt, &gathered, case.first);
+    assert_eq!(rt; total(&gathered, 0), case.totals.0);
+    assert_eq!(rt; total(&gathered, 1), case.totals.1);
+    assert_eq!(rt;
+        case.totals.0.checked_add(case.totals.1),
+        Some(gathered.verdicts.len())
+    );
+    assert_lines(rt, &gathered, case.lines);
+    assert_eq!(rt; gathered.flows, case.flows);
+    Ok(())
+}
+
 #[test]
 fn runs_of_a_flood(rt: HostRuntime) -> Result<(), Fail> {
     for case in CASES {
-        let mut rows = Vec::new(rt.alloc());
-        for _ in 0..case.frames {
-            rows.push(A)?;
-        }
-        let plan = plan_of(rt.alloc(), rows, case.cores, case.history, case.drops)?;
-        let mut settings = DdosSettings::new(4096);
-        assert_eq!(rt; settings.set(b"threshold", case.threshold), Ok(()));
-        let gathered = run_phases::<Ddos>(rt.alloc(), &settings, &plan)?;
-        assert_first(&rt, &gathered, case.first);
-        assert_eq!(rt; total(&gathered, 0), case.totals.0);
-        assert_eq!(rt; total(&gathered, 1), case.totals.1);
-        assert_eq!(rt;
-            case.totals.0.checked_add(case.totals.1),
-            Some(gathered.verdicts.len())
-        );
-        assert_lines(&rt, &gathered, case.lines);
-        assert_eq!(rt; gathered.flows, case.flows);
+        assert_case(&rt, rt.alloc(), &case)?;
+    }
+    Ok(())
+}
+
+#[test]
+fn runs_over_links_that_repeat_and_delay(rt: HostRuntime) -> Result<(), Fail> {
+    for case in LINKS {
+        assert_case(&rt, rt.alloc(), &case)?;
     }
     Ok(())
 }
@@ -257,7 +309,8 @@ fn a_bucket_on_three_cores(rt: HostRuntime) -> Result<(), Fail> {
     for (time, _) in TIMES {
         rows.push(Row { w5: time, ..A })?;
     }
-    let plan = plan_of(rt.alloc(), rows, 3, 2, b"")?;
+    let link = link_of(rt.alloc(), &FOUR)?;
+    let plan = plan_of(rows, 3, 2, link)?;
     let mut settings = BucketSettings::new(4096);
     assert_eq!(rt; settings.set(b"rate", b"1"), Ok(()));
     assert_eq!(rt; settings.set(b"burst", b"2"), Ok(()));

@@ -1,50 +1,56 @@
-use Rattle.std.proofs.Common.{◌≡◌, ◌+◌, ◌<◌, ℕ, List, Some, length, get_or, arith, ap, sym, subst, ◌∙◌}
+use Rattle.std.proofs.Common.{◌+◌, ◌<◌, ℕ, List, Some, length, get_or, arith, ap, sym, subst, ◌∙◌}
 use Rattle.std.specs.Prelude.{slice_get}
 use Rattle.std.proofs.lemmas.Option.{slice_get-get_or}
 use Rattle.scr_base.specs.declared.row.Row.{Row}
-use Rattle.scr_plan.specs.declared.drops.DropRange.{DropRange}
-use Rattle.scr_plan.specs.Drops.{has_number}
+use Rattle.scr_plan.specs.Link.{Link, fate_of}
 use Rattle.scr_plan.specs.Plan.{frame_count}
-use Rattle.scr_sequencer.specs.Sequence.{Sequence}
-use Rattle.scr_sequencer.specs.Answers.{Adds}
-use Rattle.scr_replica.specs.Entries.{AllKnow}
-use Rattle.scr_replica.proofs.Passing.{on_ok, AllFinal-end}
+use Rattle.scr_sequencer.specs.Sequence.{Sequence, begun}
+use Rattle.scr_sequencer.specs.Answers.{Adds, Follows}
+use Rattle.scr_replica.proofs.Begun.{follows-begun}
 use Rattle.scr_replica.proofs.filling.fill.Goals as goal
+use Rattle.scr_replica.proofs.filling.fill.Goals.{After-outgoing-in-loop-i-1}
 
-pub loop-i-preserved : goal.loop-i-preserved
-loop-i-preserved c =
+pub loop-i-init : goal.loop-i-init
+loop-i-init c =
+    let begins = c.in_ok-sequencer.ensures ∙ (λ i. begun (c.cores.ensures.cores i) (c.history.ensures.history i)) in
+    record {
+      follows = follows-begun c.args.plan.now c.in_ok-sequencer.sequencer c.requires.is_plan begins;
+      taken = ap (λ (s : Sequence). s.taken) begins;
+      took = c.requires;
+    }
+
+within : (c : After-outgoing-in-loop-i-1) → c.loop-i.i < frame_count c.args.plan.now
+within c = omega (arith, ap length c.rows-row-items.ensures.rows, c.loop-i-test.true)
+
+-- the answer is what the next step adds to the lanes
+lanes : (c : After-outgoing-in-loop-i-1) → Adds c.args.plan.now (c.loop-i.i + 1) c.in_ok-outgoing.outgoing × Follows c.args.plan.now c.next.new.self
+lanes c =
     let was = c.loop-i.invariant in
     let plan = c.args.plan.now in
     let i : ℕ = c.loop-i.i in
-    let rows : c.rows-row-items.result.now ≡ plan.rows = c.rows-row-items.ensures.rows in
-    let below : i < length plan.rows = omega (arith, ap length rows, c.loop-i-test.true) in
     let zero : Row = record { w0 = 0; w1 = 0; w2 = 0; w3 = 0; w4 = 0; w5 = 0; w6 = 0 } in
-    let lanes = c.in_ok-outgoing.ensures.lanes plan was.follows
+    let both = c.in_ok-outgoing.ensures.lanes plan was.follows
     (record {
       row_is =
           ap (slice_get plan.rows) was.taken
-          ∙ slice_get-get_or plan.rows i zero below
-          ∙ ap (λ (xs : List Row). Some (get_or xs i zero)) (sym rows);
-      dropped_is =
-          c.has-dropped.ensures.answer
-          ∙ ap (λ (d : List DropRange). has_number d (i + 1)) c.drops.ensures.drops
-          ∙ ap (λ (k : ℕ). has_number plan.drops (k + 1)) (sym was.taken);
+          ∙ slice_get-get_or plan.rows i zero (within c)
+          ∙ ap (λ (xs : List Row). Some (get_or xs i zero)) (sym c.rows-row-items.ensures.rows);
+      fate_is =
+          c.fate-fate.ensures.answer
+          ∙ ap (λ (link : Link). fate_of link (i + 1)) c.link.ensures.link
+          ∙ ap (λ (k : ℕ). fate_of plan.link (k + 1)) (sym was.taken);
     }) in
-    let adds : Adds plan (i + 1) c.in_ok-outgoing.outgoing = subst (λ (k : ℕ). Adds plan (k + 1) c.in_ok-outgoing.outgoing) was.taken lanes.0 in
-    let passed : AllKnow plan i c.pass_beacon.new.cores = c.in_ok-pass_beacon.ensures plan i (sym c.history-in-loop-i.ensures.history) adds was.know in
-    record {
-      follows = lanes.1;
-      taken = ap (λ (s : Sequence). s.taken) c.in_ok-outgoing.ensures.ok ∙ ap (λ (k : ℕ). k + 1) was.taken;
-      know = c.in_ok-pass_frame.ensures plan i adds passed;
-    }
+    (subst (λ (k : ℕ). Adds plan (k + 1) c.in_ok-outgoing.outgoing) was.taken both.0, both.1)
 
-pub returns : goal.returns
-returns c =
+pub give_step-requires : goal.give_step-requires
+give_step-requires c = (c.loop-i.i, within c, c.loop-i.invariant.took, (lanes c).0)
+
+pub loop-i-preserved : goal.loop-i-preserved
+loop-i-preserved c =
+    let here = (goal.at.loop-i-preserved c).After-outgoing-in-loop-i-1 in
     let was = c.loop-i.invariant in
-    let plan = c.args.plan.now in
-    let all : c.loop-i.i ≡ c.finish.result = sym was.taken ∙ sym c.finish.ensures in
-    let end : c.finish.result ≡ frame_count plan =
-    omega (arith, all, c.loop-i-test.false, c.loop-i.auto.i-end, ap length c.rows-row-items.ensures.rows) in
-    let know : AllKnow plan c.finish.result c.loop-i.cores = subst (λ (k : ℕ). AllKnow plan k c.loop-i.cores) all was.know in
-    on_ok c.lose_all.result (AllFinal-end plan c.loop-i.cores c.lose_all.new.cores c.finish.result know end c.lose_all.auto.cores)
-    c.lose_all.ensures
+    record {
+      follows = (lanes here).1;
+      taken = ap (λ (s : Sequence). s.taken) c.in_ok-outgoing.ensures.ok ∙ ap (λ (k : ℕ). k + 1) was.taken;
+      took = c.in_ok-give_step.ensures c.loop-i.i (within here) was.took (lanes here).0;
+    }

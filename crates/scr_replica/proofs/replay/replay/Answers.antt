@@ -8,6 +8,7 @@ use Rattle.scr_plan.specs.Plan.{Plan, frame_count}
 use Rattle.scr_plan.specs.Counts.{plan_counts}
 use Rattle.scr_replica.specs.declared.entry.Entry.{Entry}
 use Rattle.scr_replica.specs.Entries.{row_in, is_delivered, entry_of, entries_up_to}
+use Rattle.scr_replica.specs.Told.{Told}
 use Rattle.scr_replica.specs.OneCore.{kept_row, kept_rows, course_up_to, course, entries}
 use Rattle.scr_plan.specs.Counts.{counts_up_to}
 use Rattle.scr_replica.proofs.Knowing.{length-entries}
@@ -31,7 +32,7 @@ loop-place-init g c = record {
 own : (g : _) (c : In-loop-place g) → c.entries-entry-items.result.now ≡ entries_up_to c.args.plan.now c.args.core (frame_count c.args.plan.now)
 own g c =
     own_entries c.args.plan.now c.args.cores.now c.args.core c.entries-entry-items.result.now c.index-cores-core.result c.requires.known
-    c.requires.of_the_run (c.entries-entry-items.ensures ∙ c.index-cores-core.is)
+    c.requires.of_the_run (c.entries-entry-items.ensures ∙ ap (λ (x : Told). x.known) c.index-cores-core.is)
 
 below : (g : _) (c : In-loop-place g) → c.loop-place.place < frame_count c.args.plan.now
 below g c = omega (arith, ap length (own g c), length-entries c.args.plan.now c.args.core (frame_count c.args.plan.now), c.loop-place-test.true)
@@ -132,7 +133,7 @@ returns g c =
     let count_after = g.P.Program.count_after c.args.settings.now in
     let was = c.loop-place.invariant in
     let items = own_entries plan c.args.cores.now core c.entries-entry-items.result.now c.index-cores-core.result c.requires.known
-    c.requires.of_the_run (c.entries-entry-items.ensures ∙ c.index-cores-core.is) in
+    c.requires.of_the_run (c.entries-entry-items.ensures ∙ ap (λ (x : Told). x.known) c.index-cores-core.is) in
     let all : c.loop-place.place ≡ frame_count plan =
     omega (arith, ap length items, length-entries plan core (frame_count plan), c.loop-place-test.false, c.loop-place.auto.place-end) in
     let verdicts : c.loop-place.verdicts.items ≡ course verdict_after plan core = was.verdicts ∙ ap (course_up_to verdict_after plan core) all in
