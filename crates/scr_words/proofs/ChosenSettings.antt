@@ -31,12 +31,12 @@ use Rattle.scr_words.specs.declared.program_name.ProgramName.{ProgramName}
 use Rattle.scr_words.specs.declared.program_name.ProgramName.TheVariants as program
 use Rattle.scr_words.specs.declared.operand.Operand.TheVariants as operand
 use Rattle.scr_words.specs.Operands.{table}
-use Rattle.scr_words.specs.WordParts.{given, chosen}
+use Rattle.scr_words.specs.WordParts.{given, program_in, first_in, second_in}
 use Rattle.scr_words.specs.WordFaults.{setting_fault, lacks_operand}
 use Rattle.scr_words.specs.WordTests.{HaveFaultlessValues}
 use Rattle.scr_words.specs.GivenSettings.{value_for, number_for, history_for, HasPorts, HasNumbers, name_of, HasProgram, HasShape, AreChosen}
 use Rattle.scr_words.proofs.GivenValues.{value_for-passes}
-use Rattle.scr_words.proofs.FaultlessWords.{lacks-program, lacks-table}
+use Rattle.scr_words.proofs.FaultlessWords.{lacks-program, lacks-table, lacks-first, lacks-second}
 use Rattle.scr_words.proofs.TextFaults.{drop_list_fault-empty, table-some}
 use Rattle.scr_words.proofs.FaultlessValues.{Spells-some, number-inside, history-short}
 
@@ -163,6 +163,9 @@ module _ (operands : List (List ℕ)) (values : HaveFaultlessValues operands) wh
   name_of-made name.Knock = refl
   name_of-made name.Conn = refl
 
+  named : (one : OneName) → Some one ≡ Some (name_of (made one))
+  named one = ap Some (sym (name_of-made one))
+
   HasNumbers-made : (one : OneName) → HasNumbers operands (made one)
   HasNumbers-made name.Ddos = (refl, refl)
   HasNumbers-made name.Heavy = (refl, refl)
@@ -241,12 +244,17 @@ module _ (operands : List (List ℕ)) (values : HaveFaultlessValues operands) wh
 
   program-same : (a b : ProgramSettings) → HasProgram operands a → HasProgram operands b → a ≡ b
   program-same (One a) (One b) has_a has_b = ap One (one-same a b has_a.1 has_b.1 (cc (has_a.0, has_b.0)))
-  program-same (One a) (Table b) has_a has_b = absurd (cc (has_a.0, has_b.0))
-  program-same (Table a) (One b) has_a has_b = absurd (cc (has_a.0, has_b.0))
+  program-same (Chain a c) (Chain b d) has_a has_b =
+      let first = one-same a b has_a.3 has_b.3 (cc (has_a.1, has_b.1)) in
+      let second = one-same c d has_a.4 has_b.4 (cc (has_a.2, has_b.2)) in
+      λ i. Chain (first i) (second i)
   program-same (Table a) (Table b) has_a has_b = ap Table (table-same a b has_a.1 has_b.1 has_a.2 has_b.2)
-  program-same (Chain first second) b has_a has_b = absurd has_a
-  program-same (One a) (Chain first second) has_a has_b = absurd has_b
-  program-same (Table a) (Chain first second) has_a has_b = absurd has_b
+  program-same (One a) (Chain b d) has_a has_b = absurd (cc (has_a.0, has_b.0))
+  program-same (One a) (Table b) has_a has_b = absurd (cc (has_a.0, has_b.0))
+  program-same (Chain a c) (One b) has_a has_b = absurd (cc (has_a.0, has_b.0))
+  program-same (Chain a c) (Table b) has_a has_b = absurd (cc (has_a.0, has_b.0))
+  program-same (Table a) (One b) has_a has_b = absurd (cc (has_a.0, has_b.0))
+  program-same (Table a) (Chain b d) has_a has_b = absurd (cc (has_a.0, has_b.0))
 
   shape_some : (shape : Shape) × HasShape operands shape
   shape_some =
@@ -271,7 +279,7 @@ module _ (operands : List (List ℕ)) (values : HaveFaultlessValues operands) wh
   abbrev SomeProgram : Type 0
   SomeProgram = ((settings : ProgramSettings) × HasProgram operands settings) ⊎ (lacks_operand operands ≡ true)
 
-  table_by : chosen operands ≡ Some program.Table → (found : Option (List ℕ)) → given (table operand.Table).name operands ≡ found → SomeProgram
+  table_by : program_in operands ≡ Some program.Table → (found : Option (List ℕ)) → given (table operand.Table).name operands ≡ found → SomeProgram
   table_by is None absent = inr (lacks-table operands is absent)
   table_by is (Some text) found =
       let (rules, spells) = table-some text (values operand.Table text found) in
@@ -285,10 +293,17 @@ module _ (operands : List (List ℕ)) (values : HaveFaultlessValues operands) wh
       } in
       inl (Table settings, (is, subst (λ (t : List ℕ). tables.Spells t rules) (sym value) spells, refl))
 
-  program_by : (found : Option ProgramName) → chosen operands ≡ found → SomeProgram
+  chain_by : program_in operands ≡ Some program.Chain → (first second : Option OneName) → first_in operands ≡ first → second_in operands ≡ second → SomeProgram
+  chain_by is None second none is_second = inr (lacks-first operands values is none)
+  chain_by is (Some first) None is_first none = inr (lacks-second operands values is none)
+  chain_by is (Some first) (Some second) is_first is_second =
+      inl (Chain (made first) (made second), (is, is_first ∙ named first, is_second ∙ named second, HasNumbers-made first, HasNumbers-made second))
+
+  program_by : (found : Option ProgramName) → program_in operands ≡ found → SomeProgram
   program_by None none = inr (lacks-program operands values none)
   program_by (Some (program.One one)) is =
       inl (One (made one), (is ∙ ap (λ (n : OneName). Some (program.One n)) (sym (name_of-made one)), HasNumbers-made one))
+  program_by (Some program.Chain) is = chain_by is (first_in operands) (second_in operands) refl refl
   program_by (Some program.Table) is = table_by is (given (table operand.Table).name operands) refl
 
   settings_by : (command : Command) (program : ProgramSettings) → HasProgram operands program
@@ -312,7 +327,7 @@ module _ (operands : List (List ℕ)) (values : HaveFaultlessValues operands) wh
   pub settings_some : (command : Command)
       → ((settings : RunSettings) × (settings.command ≡ command) × AreChosen operands settings) ⊎ (lacks_operand operands ≡ true)
   settings_some command =
-      elim (program_by (chosen operands) refl) [
+      elim (program_by (program_in operands) refl) [
         | inl (program, has) ↦ inl (settings_by command program has)
         | inr lacks ↦ inr lacks
       ]

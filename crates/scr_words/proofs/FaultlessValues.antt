@@ -14,7 +14,7 @@ use Rattle.scr_words.specs.declared.word_fault.WordCause.TheVariants as cause
 use Rattle.scr_words.specs.declared.operand.Operand.{Operand}
 use Rattle.scr_words.specs.declared.operand.Operand.TheVariants as operand
 use Rattle.scr_words.specs.declared.operand.Form.{Form}
-use Rattle.scr_words.specs.declared.operand.Form.TheVariants.{OneProgram, Number, DropList, YesNo, ThreePorts, TableText}
+use Rattle.scr_words.specs.declared.operand.Form.TheVariants.{OneProgram, Number, DropList, YesNo, ThreePorts, FirstProgram, SecondProgram, TableText}
 use Rattle.scr_words.specs.Operands.{table, is_numeric, IsWithin}
 use Rattle.scr_words.specs.WordParts.{given}
 use Rattle.scr_words.specs.TextFaults.{refused_or, pieces_fault, drop_list_fault}
@@ -94,6 +94,8 @@ value-inside (Number least greatest) value numeric none = setting-inside value l
 value-inside DropList value numeric none = absurd cc
 value-inside YesNo value numeric none = absurd cc
 value-inside ThreePorts value numeric none = absurd cc
+value-inside FirstProgram value numeric none = absurd cc
+value-inside SecondProgram value numeric none = absurd cc
 value-inside TableText value numeric none = absurd cc
 
 module _ (operands : List (List ℕ)) (values : HaveFaultlessValues operands) where

@@ -12,9 +12,8 @@ use Rattle.scr_words.specs.declared.settings.Command.{Command}
 use Rattle.scr_words.specs.declared.settings.ProgramSettings.{ProgramSettings}
 use Rattle.scr_words.specs.declared.settings.ProgramSettings.TheVariants as settings
 use Rattle.scr_words.specs.declared.settings.RunSettings.{RunSettings}
-use Rattle.scr_words.specs.declared.program_name.ProgramName.{ProgramName}
 use Rattle.scr_words.specs.declared.operand.Operand.TheVariants as operand
-use Rattle.scr_words.specs.Operands.{command_named, program_named, table}
+use Rattle.scr_words.specs.Operands.{all_firsts, all_ones, command_named, one_named, program_named, table}
 use Rattle.scr_words.specs.WordParts.{given}
 use Rattle.scr_words.specs.WordFaults.{fault_at, lacks_operand, AreFaultless, IsFirstFault, IsMissing, AreRefused}
 use Rattle.scr_words.specs.TextFaults.{table_fault}
@@ -78,10 +77,10 @@ AreRefused-same (first ∷ operands) a b one other =
     (ap (λ (f : WordFault). f.word) same, ap (λ (f : WordFault). f.cause) same))
     (λ command. refused-same command operands a b)
 
--- a chosen program was given
-chosen-given : (found : Option (List ℕ)) (program : ProgramName) → option_and_then program_named found ≡ Some program → is_none found ≡ false
-chosen-given None program is = absurd cc
-chosen-given (Some name) program is = refl
+-- what is named was given
+named-given : {A : Type 0} (named : List ℕ → Option A) (found : Option (List ℕ)) (name : A) → option_and_then named found ≡ Some name → is_none found ≡ false
+named-given named None name is = absurd cc
+named-given named (Some value) name is = refl
 
 -- a table that is spelled was given, since no text but one that is given spells rules
 table-given : (found : Option (List ℕ)) (rules : List Rule) → tables.Spells (unwrap_or found []) rules → is_none found ≡ false
@@ -93,10 +92,14 @@ table-given (Some text) rules spells = refl
 
 -- accepted words lack no operand
 lacks-none : (operands : List (List ℕ)) (settings : ProgramSettings) → HasProgram operands settings → lacks_operand operands ≡ false
-lacks-none operands (settings.One one) has = rw (has.0, chosen-given (given (table operand.Program).name operands) _ has.0) refl
-lacks-none operands (settings.Chain first second) has = absurd has
+lacks-none operands (settings.One one) has = rw (has.0, named-given program_named (given (table operand.Program).name operands) _ has.0) refl
+lacks-none operands (settings.Chain first second) has =
+    let program = named-given program_named (given (table operand.Program).name operands) _ has.0 in
+    let one = named-given (one_named all_firsts) (given (table operand.First).name operands) _ has.1 in
+    let other = named-given (one_named all_ones) (given (table operand.Second).name operands) _ has.2 in
+    rw (has.0, program, one, other) refl
 lacks-none operands (settings.Table rules) has =
-    let program = chosen-given (given (table operand.Program).name operands) _ has.0 in
+    let program = named-given program_named (given (table operand.Program).name operands) _ has.0 in
     let text = table-given (given (table operand.Table).name operands) rules.table has.1 in
     rw (has.0, program, text) refl
 

@@ -19,7 +19,7 @@ use Rattle.scr_words.specs.declared.program_name.ProgramName.TheVariants as prog
 use Rattle.scr_words.specs.declared.operand.Operand.{Operand}
 use Rattle.scr_words.specs.declared.operand.Operand.TheVariants as operand
 use Rattle.scr_words.specs.Operands.{table, command_named}
-use Rattle.scr_words.specs.WordParts.{given, chosen}
+use Rattle.scr_words.specs.WordParts.{given, program_in, first_in, second_in}
 use Rattle.scr_words.specs.WordFaults.{AreFaultless}
 
 -- the value of an operand: that of its word, or the default
@@ -62,11 +62,15 @@ HasNumbers operands (Knock settings) =
 HasNumbers operands (Conn settings) =
     (settings.idle ≡ number_for operand.Idle operands) × (settings.flows ≡ number_for operand.Flows operands)
 
--- the chosen program, with its numbers or its rules
+-- the chosen program, or both of a chain, with its numbers or its rules
 abbrev pub HasProgram : List (List ℕ) → ProgramSettings → Type 0
-HasProgram operands (One settings) = (chosen operands ≡ Some (program.One (name_of settings))) × HasNumbers operands settings
-HasProgram operands (Chain first second) = ⊥
-HasProgram operands (Table settings) = (chosen operands ≡ Some program.Table)
+HasProgram operands (One settings) = (program_in operands ≡ Some (program.One (name_of settings))) × HasNumbers operands settings
+HasProgram operands (Chain first second) = (program_in operands ≡ Some program.Chain)
+    × (first_in operands ≡ Some (name_of first))
+    × (second_in operands ≡ Some (name_of second))
+    × HasNumbers operands first
+    × HasNumbers operands second
+HasProgram operands (Table settings) = (program_in operands ≡ Some program.Table)
     × tables.Spells (value_for operand.Table operands) settings.table
     × (settings.flows ≡ number_for operand.Flows operands)
 

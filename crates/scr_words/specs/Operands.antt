@@ -1,6 +1,6 @@
 -- The operands of a command line: their names, who takes them, what their values are, and which value stands where the
 -- words give none.
-use Rattle.std.specs.Prelude.{ℕ, ◌≤◌, ⊤, Bool, true, false, List, [], ◌∷◌, Option, Some, codes}
+use Rattle.std.specs.Prelude.{ℕ, ◌≤◌, ⊤, Bool, true, false, ◌||◌, List, [], ◌∷◌, Option, Some, None, codes}
 use Rattle.std.specs.List.{find}
 use Rattle.std.specs.Option.{option_map_or}
 use Rattle.std.specs.Str.{bytes_eq}
@@ -11,12 +11,13 @@ use Rattle.scr_words.specs.declared.program_name.OneName.{OneName}
 use Rattle.scr_words.specs.declared.program_name.OneName.TheVariants.{Ddos, Heavy, Bucket, Knock, Conn}
 use Rattle.scr_words.specs.declared.program_name.ProgramName.{ProgramName}
 use Rattle.scr_words.specs.declared.program_name.ProgramName.TheVariants as program
+use Rattle.scr_words.specs.declared.program_name.Choice.{Choice}
 use Rattle.scr_words.specs.declared.operand.Operand.{Operand}
 use Rattle.scr_words.specs.declared.operand.Operand.TheVariants as operand
 use Rattle.scr_words.specs.declared.operand.Taker.{Taker}
 use Rattle.scr_words.specs.declared.operand.Taker.TheVariants as taker
 use Rattle.scr_words.specs.declared.operand.Form.{Form}
-use Rattle.scr_words.specs.declared.operand.Form.TheVariants.{OneProgram, Number, DropList, YesNo, ThreePorts, TableText}
+use Rattle.scr_words.specs.declared.operand.Form.TheVariants.{OneProgram, Number, DropList, YesNo, ThreePorts, FirstProgram, SecondProgram, TableText}
 
 -- the names of the commands and of the programs
 abbrev pub command_name : Command → List ℕ
@@ -33,18 +34,29 @@ one_name Conn = codes "conn"
 
 abbrev pub program_name : ProgramName → List ℕ
 program_name (program.One one) = one_name one
+program_name program.Chain = codes "chain"
 program_name program.Table = codes "table"
 
 abbrev pub all_commands : List Command
 all_commands = Run ∷ Plain ∷ Load ∷ []
 
-abbrev pub all_programs : List ProgramName
-all_programs =
-    program.One Ddos ∷ program.One Heavy ∷ program.One Bucket ∷ program.One Knock ∷ program.One Conn ∷ program.Table ∷ []
+abbrev pub all_ones : List OneName
+all_ones = Ddos ∷ Heavy ∷ Bucket ∷ Knock ∷ Conn ∷ []
 
--- the command or the program with a name
+-- those that may be the first of a chain
+abbrev pub all_firsts : List OneName
+all_firsts = Ddos ∷ Heavy ∷ Bucket ∷ Knock ∷ []
+
+abbrev pub all_programs : List ProgramName
+all_programs = program.One Ddos ∷ program.One Heavy ∷ program.One Bucket ∷ program.One Knock ∷ program.One Conn
+    ∷ program.Chain ∷ program.Table ∷ []
+
+-- the command, the one among some of the five, or the program with a name
 unfoldable pub command_named : List ℕ → Option Command
 command_named name = find (λ command. bytes_eq (command_name command) name) all_commands
+
+unfoldable pub one_named : List OneName → List ℕ → Option OneName
+one_named ones name = find (λ one. bytes_eq (one_name one) name) ones
 
 unfoldable pub program_named : List ℕ → Option ProgramName
 program_named name = find (λ program. bytes_eq (program_name program) name) all_programs
@@ -62,7 +74,7 @@ line name taker form default = record { name = name; taker = taker; form = form;
 abbrev pub taker_of : OneName → Taker
 taker_of one = taker.Program (program.One one)
 
--- The table. A program and a table have no default, and the default history is one less than the cores.
+-- The table. Programs and a table have no default, and the default history is one less than the cores.
 abbrev pub table : Operand → Line
 table operand.Program = line (codes "program") taker.Every OneProgram []
 table operand.Flows = line (codes "flows") taker.Every (Number 1 most_flows) (codes "4096")
@@ -80,13 +92,15 @@ table operand.Rate = line (codes "rate") (taker_of Bucket) (Number 0 1000000000)
 table operand.Burst = line (codes "burst") (taker_of Bucket) (Number 1 1000000000) (codes "100")
 table operand.Ports = line (codes "ports") (taker_of Knock) ThreePorts (codes "7000,8000,9000")
 table operand.Idle = line (codes "idle") (taker_of Conn) (Number 1 10000000000000) (codes "60000000")
+table operand.First = line (codes "first") (taker.Program program.Chain) FirstProgram []
+table operand.Second = line (codes "second") (taker.Program program.Chain) SecondProgram []
 table operand.Table = line (codes "table") (taker.Program program.Table) TableText []
 
 abbrev pub all_operands : List Operand
 all_operands =
     operand.Program ∷ operand.Flows ∷ operand.Cores ∷ operand.History ∷ operand.Drop ∷ operand.Ring ∷ operand.Threads
     ∷ operand.Start ∷ operand.Frames ∷ operand.Hosts ∷ operand.Threshold ∷ operand.Bytes ∷ operand.Rate ∷ operand.Burst
-    ∷ operand.Ports ∷ operand.Idle ∷ operand.Table ∷ []
+    ∷ operand.Ports ∷ operand.Idle ∷ operand.First ∷ operand.Second ∷ operand.Table ∷ []
 
 -- the operand with a name
 unfoldable pub operand_named : List ℕ → Option Operand
@@ -111,19 +125,27 @@ is_same Knock Knock = true
 is_same Conn Conn = true
 is_same _ _ = false
 
--- whether a chosen program takes the operands of another one
-abbrev pub takes_those_of : ProgramName → ProgramName → Bool
-takes_those_of (program.One chosen) (program.One one) = is_same chosen one
-takes_those_of program.Table program.Table = true
-takes_those_of chosen other = false
+-- whether a chain of these two takes the operands of one of the five; where one of the two isn't known, it takes each
+abbrev pub is_in_chain : Option OneName → Option OneName → OneName → Bool
+is_in_chain (Some first) (Some second) one = is_same first one || is_same second one
+is_in_chain (Some first) None one = true
+is_in_chain None second one = true
 
--- Whether an operand with this taker is taken beside this command and the chosen program. Where no program is chosen,
+-- whether a chosen program takes the operands of another one
+abbrev pub takes_those_of : Choice → ProgramName → ProgramName → Bool
+takes_those_of choice (program.One chosen) (program.One one) = is_same chosen one
+takes_those_of choice program.Chain (program.One one) = is_in_chain choice.first choice.second one
+takes_those_of choice program.Chain program.Chain = true
+takes_those_of choice program.Table program.Table = true
+takes_those_of choice chosen other = false
+
+-- Whether an operand with this taker is taken beside this command and what the words choose. Where no program is chosen,
 -- the operands of each are.
-abbrev pub is_taken : Command → Option ProgramName → Taker → Bool
-is_taken command chosen taker.Every = true
-is_taken command chosen taker.WithCores = runs_cores command
-is_taken command chosen taker.LoadAlone = makes_load command
-is_taken command chosen (taker.Program program) = option_map_or (λ running. takes_those_of running program) chosen true
+abbrev pub is_taken : Command → Choice → Taker → Bool
+is_taken command choice taker.Every = true
+is_taken command choice taker.WithCores = runs_cores command
+is_taken command choice taker.LoadAlone = makes_load command
+is_taken command choice (taker.Program program) = option_map_or (λ chosen. takes_those_of choice chosen program) choice.program true
 
 -- a number's form has its ends in order
 abbrev pub IsOrdered : Form → Type 0
@@ -139,7 +161,8 @@ abbrev pub IsWithin : Form → ℕ → Type 0
 IsWithin (Number least greatest) number = (least ≤ number) × (number ≤ greatest)
 IsWithin _ number = ⊥
 
--- the operands that a program can't do without
+-- the operands that words can't do without, by the program that they choose
 abbrev pub required : Option ProgramName → List Operand
+required (Some program.Chain) = operand.Program ∷ operand.First ∷ operand.Second ∷ []
 required (Some program.Table) = operand.Program ∷ operand.Table ∷ []
 required _ = operand.Program ∷ []

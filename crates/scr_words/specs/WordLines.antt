@@ -40,6 +40,7 @@ cause_line cause.Value = codes "Value\n"
 cause_line cause.Range = codes "Range\n"
 cause_line (cause.Drop refusal place) = codes "Drop " ++ placed (drop_cause_name refusal) place
 cause_line cause.Missing = codes "Missing\n"
+cause_line cause.Same = codes "Same\n"
 cause_line (cause.Table refusal place) = codes "Table " ++ placed (table_cause_name refusal) place
 
 abbrev pub word_line : WordFault → List ℕ

@@ -1,7 +1,7 @@
 ghost use Rattle.std.specs.Prelude.{◌≡◌};
 ghost use Rattle.scr_words.specs.Operands.{command_name, command_named, operand_named, table, taker_of, is_taken};
 
-use crate::program_name::{OneName, ProgramName};
+use crate::program_name::{Choice, OneName, ProgramName};
 use crate::settings::Command;
 
 const MOST_FLOWS: u64 = 65_536;
@@ -37,10 +37,12 @@ pub(crate) enum Operand {
     Burst,
     Ports,
     Idle,
+    First,
+    Second,
     Table,
 }
 
-const OPERANDS: [Operand; 17] = [
+const OPERANDS: [Operand; 19] = [
     Operand::Program,
     Operand::Flows,
     Operand::Cores,
@@ -57,6 +59,8 @@ const OPERANDS: [Operand; 17] = [
     Operand::Burst,
     Operand::Ports,
     Operand::Idle,
+    Operand::First,
+    Operand::Second,
     Operand::Table,
 ];
 
@@ -86,6 +90,10 @@ pub(crate) enum Form {
     YesNo,
     /// Three ports, parted by commas.
     ThreePorts,
+    /// The name of a program that may be the first of a chain.
+    FirstProgram,
+    /// The name of a program that may be the second of a chain.
+    SecondProgram,
     /// A table of rules.
     TableText,
 }
@@ -96,7 +104,7 @@ pub(crate) struct TableLine {
     pub(crate) name: &'static [u8],
     pub(crate) taker: Taker,
     pub(crate) form: Form,
-    /// The value that stands where none is given. A program and a table have none, and the history's depends on the cores.
+    /// The value that stands where none is given. Programs and a table have none, and the history's depends on the cores.
     pub(crate) default: &'static [u8],
 }
 
@@ -123,6 +131,8 @@ impl Operand {
         let bucket = taker_of(OneName::Bucket);
         let knock = taker_of(OneName::Knock);
         let conn = taker_of(OneName::Conn);
+        let chain = Taker::Program(ProgramName::Chain);
+        let table = Taker::Program(ProgramName::Table);
         match self {
             Operand::Program => line(b"program", Taker::Every, Form::OneProgram, b""),
             Operand::Flows => line(b"flows", Taker::Every, number(1, MOST_FLOWS), b"4096"),
@@ -140,12 +150,9 @@ impl Operand {
             Operand::Burst => line(b"burst", bucket, number(1, 1_000_000_000), b"100"),
             Operand::Ports => line(b"ports", knock, Form::ThreePorts, b"7000,8000,9000"),
             Operand::Idle => line(b"idle", conn, number(1, 10_000_000_000_000), b"60000000"),
-            Operand::Table => line(
-                b"table",
-                Taker::Program(ProgramName::Table),
-                Form::TableText,
-                b"",
-            ),
+            Operand::First => line(b"first", chain, Form::FirstProgram, b""),
+            Operand::Second => line(b"second", chain, Form::SecondProgram, b""),
+            Operand::Table => line(b"table", table, Form::TableText, b""),
         }
     }
 }
@@ -200,16 +207,16 @@ impl Command {
 }
 
 impl Taker {
-    /// Whether an operand with this taker is taken beside this command and the chosen program. Where no program is
+    /// Whether an operand with this taker is taken beside this command and what the words choose. Where no program is
     /// chosen, the operands of each are.
-    pub(crate) fn is_met(self, command: Command, chosen: Option<ProgramName>) -> bool
-        ensures { result ≡ is_taken command chosen self }
+    pub(crate) fn is_met(self, command: Command, choice: Choice) -> bool
+        ensures { result ≡ is_taken command choice self }
     {
         match self {
             Taker::Every => true,
             Taker::WithCores => command != Command::Plain,
             Taker::LoadAlone => command == Command::Load,
-            Taker::Program(program) => chosen.is_none_or(|running| running.takes_those_of(program)),
+            Taker::Program(program) => choice.takes(program),
         }
     }
 }

@@ -1,5 +1,6 @@
 //! Command lines, with the settings that each must give, by hand.
 
+mod ranges;
 mod refusals;
 
 use super::*;
@@ -9,6 +10,7 @@ use scr_conn::ConnSettings;
 use scr_ddos::DdosSettings;
 use scr_heavy::HeavySettings;
 use scr_knock::KnockSettings;
+use scr_tables::{Decision, Pattern, Rule};
 use std::alloc::Global;
 use std::test::Fail;
 
@@ -114,6 +116,40 @@ fn takes_each_program_operand(rt: HostRuntime) -> Result<(), Fail> {
     let conn = OneSettings::Conn(ConnSettings { idle, flows: 4096 });
     let line = "run program=conn idle=10000000000000";
     assert_eq!(rt; program(rt.alloc(), line), Some(conn));
+    Ok(())
+}
+
+#[test]
+fn takes_a_chain(rt: HostRuntime) -> Result<(), Fail> {
+    let line = "run second=heavy threshold=3 program=chain bytes=60 first=ddos flows=9";
+    let settings = read(rt.alloc(), line).map_err(|_| "refused")?;
+    let ProgramSettings::Chain { first, second } = settings.program else {
+        return Err(Fail::from("another program"));
+    };
+    let (threshold, bytes, flows) = (3, 60, 9);
+    let ddos = OneSettings::Ddos(DdosSettings { threshold, flows });
+    let heavy = OneSettings::Heavy(HeavySettings { bytes, flows });
+    assert_eq!(rt; (first, second), (ddos, heavy));
+    Ok(())
+}
+
+#[test]
+fn takes_a_table(rt: HostRuntime) -> Result<(), Fail> {
+    let line = "load table=0:u>1/D,0:*>0/D,1:*>1/P flows=7 program=table";
+    let settings = read(rt.alloc(), line).map_err(|_| "refused")?;
+    let ProgramSettings::Table(settings) = settings.program else {
+        return Err(Fail::from("another program"));
+    };
+    assert_eq!(rt; settings.flows, 7);
+    let rules = settings.table.rules();
+    assert_eq!(rt; rules.len(), 3);
+    let first = Rule {
+        state: 0,
+        pattern: Pattern::Udp,
+        next: 1,
+        verdict: Decision::Drop,
+    };
+    assert_eq!(rt; rules[0], first);
     Ok(())
 }
 

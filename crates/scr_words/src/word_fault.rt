@@ -23,7 +23,7 @@ pub enum WordCause {
     NotHere,
     /// An earlier word has the name.
     Twice,
-    /// The value is the name of no program.
+    /// The value is the name of no program, or of none that may stand there.
     Program,
     /// The value is not of its form.
     Value,
@@ -36,8 +36,11 @@ pub enum WordCause {
         /// How many bytes stand before that piece.
         place: u64,
     },
-    /// All words are good, and none of them gives a required operand: the program, or the table of a program given as one.
+    /// All words are good, and none of them gives a required operand: the program, one of the two of a chain, or the table
+    /// of a program given as one.
     Missing,
+    /// The two programs of a chain are the same, and this is the later of their words.
+    Same,
     /// The table is refused.
     Table {
         /// Why its first refused rule is refused, or that a state lacks a rule for any packet.

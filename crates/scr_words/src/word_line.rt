@@ -47,6 +47,7 @@ fn put_cause<E: Sink>(batch: &mut Batch, err: &mut E, cause: WordCause) -> Resul
             put_placed(batch, err, b"Drop ", drop_cause_name(cause), place)
         }
         WordCause::Missing => batch.put(err, b"Missing\n"),
+        WordCause::Same => batch.put(err, b"Same\n"),
         WordCause::Table { cause, place } => {
             put_placed(batch, err, b"Table ", table_cause_name(cause), place)
         }
