@@ -51,7 +51,7 @@ abbrev pub all_programs : List ProgramName
 all_programs = program.One Ddos ∷ program.One Heavy ∷ program.One Bucket ∷ program.One Knock ∷ program.One Conn
     ∷ program.Chain ∷ program.Table ∷ []
 
--- the command, the one of some programs, or the program with a name
+-- the command, the one among some of the five, or the program with a name
 unfoldable pub command_named : List ℕ → Option Command
 command_named name = find (λ command. bytes_eq (command_name command) name) all_commands
 
@@ -125,7 +125,7 @@ is_same Knock Knock = true
 is_same Conn Conn = true
 is_same _ _ = false
 
--- whether a chain of these two programs takes the operands of one; where one of the two isn't known, it takes each
+-- whether a chain of these two takes the operands of one of the five; where one of the two isn't known, it takes each
 abbrev pub is_in_chain : Option OneName → Option OneName → OneName → Bool
 is_in_chain (Some first) (Some second) one = is_same first one || is_same second one
 is_in_chain (Some first) None one = true
@@ -161,7 +161,7 @@ abbrev pub IsWithin : Form → ℕ → Type 0
 IsWithin (Number least greatest) number = (least ≤ number) × (number ≤ greatest)
 IsWithin _ number = ⊥
 
--- the operands that a program can't do without
+-- the operands that words can't do without, by the program that they choose
 abbrev pub required : Option ProgramName → List Operand
 required (Some program.Chain) = operand.Program ∷ operand.First ∷ operand.Second ∷ []
 required (Some program.Table) = operand.Program ∷ operand.Table ∷ []

@@ -31,7 +31,7 @@ abbrev pub setting_fault : {A : Type 0} → Result A SettingError → Option Wor
 setting_fault (Ok value) = None
 setting_fault (Err error) = Some (setting_cause error)
 
--- a value is the name of a program
+-- the fault of a value that must be a name
 abbrev pub name_fault : Bool → Option WordCause
 name_fault is_name = if is_name then None else Some cause.Program
 
@@ -47,7 +47,7 @@ value_fault FirstProgram value = name_fault (is_some (one_named all_firsts value
 value_fault SecondProgram value = name_fault (is_some (one_named all_ones value))
 value_fault TableText value = table_fault value
 
--- the other program of a chain has this value too: the fault of the later of their two words
+-- the fault of a word where the other program of a chain is named before and has this value too
 abbrev pub repeated : List (List ℕ) → Operand → List ℕ → Option WordCause
 repeated before other value =
     if option_map_or (bytes_eq value) (given (table other).name before) false then Some cause.Same else None
@@ -57,6 +57,7 @@ same_fault before operand.First value = repeated before operand.Second value
 same_fault before operand.Second value = repeated before operand.First value
 same_fault before operand value = None
 
+-- the fault of what an operand is given
 abbrev pub given_fault : List (List ℕ) → Operand → List ℕ → Option WordCause
 given_fault before operand value = option_or (value_fault (table operand).form value) (same_fault before operand value)
 

@@ -1,10 +1,10 @@
-ghost use Rattle.std.specs.Prelude.{◌≡◌, ◌≤◌, IsTrue, Some, None, IfOk, MatchOption};
+ghost use Rattle.std.specs.Prelude.{◌≡◌, ◌≤◌, IsTrue, Some, None, IfOk};
 ghost use Rattle.scr_base.specs.Numbers.{number_of};
 ghost use Rattle.scr_plan.specs.Spelling.{Spells};
 ghost use Rattle.scr_words.specs.Operands.{table, is_numeric, IsWithin};
 ghost use Rattle.scr_words.specs.WordParts.{program_in, chosen};
-ghost use Rattle.scr_words.specs.WordFaults.{value_fault, lacks_operand};
-ghost use Rattle.scr_words.specs.WordTests.{HaveFaultlessValues};
+ghost use Rattle.scr_words.specs.WordFaults.{value_fault};
+ghost use Rattle.scr_words.specs.WordTests.{HaveFaultlessValues, Chooses};
 ghost use Rattle.scr_words.specs.GivenSettings.{value_for, number_for, history_for, HasPorts, HasNumbers, name_of, HasProgram, HasShape, AreChosen};
 
 use crate::operand::{Form, Operand};
@@ -28,7 +28,7 @@ pub(crate) fn settings(
     operands: &[Word],
 ) -> Result<Option<RunSettings>, OutOfMemory>
     requires values { HaveFaultlessValues operands.now }
-    ensures { IfOk result (λ made. MatchOption made (IsTrue (lacks_operand operands.now)) (λ settings. (settings.command ≡ command) × AreChosen operands.now settings)) }
+    ensures { IfOk result (Chooses operands.now (λ settings. (settings.command ≡ command) × AreChosen operands.now settings)) }
 {
     let Some(program) = program_settings(alloc, operands)? else {
         return Ok(None);
@@ -48,7 +48,7 @@ fn program_settings(
     operands: &[Word],
 ) -> Result<Option<ProgramSettings>, OutOfMemory>
     requires values { HaveFaultlessValues operands.now }
-    ensures { IfOk result (λ made. MatchOption made (IsTrue (lacks_operand operands.now)) (HasProgram operands.now)) }
+    ensures { IfOk result (Chooses operands.now (HasProgram operands.now)) }
 {
     let choice = chosen(operands);
     match choice.program {
@@ -63,7 +63,7 @@ fn chain_settings(choice: Choice, operands: &[Word]) -> Option<ProgramSettings>
     requires values { HaveFaultlessValues operands.now }
     requires choice { choice ≡ chosen operands.now }
     requires program { choice.program ≡ Some ProgramName.Chain }
-    ensures { MatchOption result (IsTrue (lacks_operand operands.now)) (HasProgram operands.now) }
+    ensures { Chooses operands.now (HasProgram operands.now) result }
 {
     let first = one_settings(choice.first?, operands);
     let second = one_settings(choice.second?, operands);
@@ -73,7 +73,7 @@ fn chain_settings(choice: Choice, operands: &[Word]) -> Option<ProgramSettings>
 fn table_settings(alloc: Global, operands: &[Word]) -> Result<Option<ProgramSettings>, OutOfMemory>
     requires values { HaveFaultlessValues operands.now }
     requires program { program_in operands.now ≡ Some ProgramName.Table }
-    ensures { IfOk result (λ made. MatchOption made (IsTrue (lacks_operand operands.now)) (HasProgram operands.now)) }
+    ensures { IfOk result (Chooses operands.now (HasProgram operands.now)) }
 {
     let Some(text) = given(Operand::Table.line().name, operands) else {
         return Ok(None);

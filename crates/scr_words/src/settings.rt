@@ -40,8 +40,8 @@ pub enum OneSettings {
 pub enum ProgramSettings {
     /// One program.
     One(OneSettings),
-    /// A chain: the second program sees what the first lets pass. The first is never the connection tracker, and the two
-    /// differ.
+    /// A chain: the second program sees what the first lets pass. In accepted words the first is never the connection
+    /// tracker, and the two differ.
     Chain {
         first: OneSettings,
         second: OneSettings,

@@ -1,5 +1,6 @@
 //! Command lines, with the settings that each must give, by hand.
 
+mod ranges;
 mod refusals;
 
 use super::*;
