@@ -22,10 +22,12 @@
 mod feed;
 mod making;
 mod offering;
+mod source;
 mod step;
 #[cfg(test)]
 mod tests;
 mod to_all;
+mod waiting;
 
 pub use feed::Feed;
 pub use step::Step;

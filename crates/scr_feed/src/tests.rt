@@ -3,7 +3,7 @@ ghost use Rattle.std.specs.Prelude.{◌≤◌};
 use crate::{Feed, Step};
 use scr_base::{OutOfMemory, Row};
 use scr_lane::ReceiveEnd;
-use scr_plan::{DropError, Drops, RunPlan};
+use scr_plan::{DropError, Drops, Link, RunPlan};
 use scr_wire::{MessageKind, Packet};
 use std::alloc::Global;
 use std::sync::Wait;
@@ -31,7 +31,7 @@ fn plan_of(alloc: Global, frames: u16, cores: u32, drops: &[u8]) -> Result<RunPl
 {
     let rows = vec![in alloc; ROW; usize::from(frames)]?;
     let drops = Drops::read(alloc, drops)?;
-    Ok(RunPlan::make(rows, cores, 0, drops))
+    Ok(RunPlan::make(rows, cores, 0, Link::dropping(alloc, drops)))
 }
 
 // The message of frame n, where a frame carries its own packet alone.
