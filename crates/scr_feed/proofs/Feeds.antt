@@ -1,5 +1,5 @@
 -- What each step of a feed leaves.
-use Rattle.std.proofs.Common.{◌≡◌, ◌≢◌, ℕ, zero, suc, ◌+◌, ◌-◌, ◌^◌, ◌<◌, ◌≤◌, ◌⊎◌, Bool, true, false, cond, List, [], ◌∷◌, ◌++◌, length, map, set, get_or, All, Option, Some, None, inl, inr, sym, refl, ap, ◌∙◌, subst, ⊎_elim, arith, eqb, leb, drop, length-set, get_or-set_same, get_or-set_other}
+use Rattle.std.proofs.Common.{◌≡◌, ◌≢◌, ℕ, zero, suc, ◌+◌, ◌^◌, ◌<◌, ◌≤◌, ◌⊎◌, Bool, true, false, cond, List, [], ◌∷◌, ◌++◌, length, map, set, get_or, All, Option, Some, None, inl, inr, sym, refl, ap, ◌∙◌, subst, ⊎_elim, arith, eqb, leb, drop, length-set, get_or-set_same, get_or-set_other}
 use Rattle.std.specs.List.{AllZip, flat_map}
 use Rattle.std.specs.Option.{option_to_list}
 use Rattle.std.proofs.lemmas.List.{append-nil, length-append}
@@ -14,12 +14,12 @@ use Rattle.scr_wire.specs.declared.message.Message.TheVariants as message
 use Rattle.scr_wire.specs.Spelling.{IsRow, Spells, spelling}
 use Rattle.scr_wire.specs.Lane.{added, lane, lane_so_far, last_step}
 use Rattle.scr_wire.proofs.LaneGrows.{lane_so_far-zero, lane_so_far-suc, lane_front}
-use Rattle.std.proofs.Math.Seq.{drop-nil}
 use Rattle.scr_sequencer.specs.Sequence.{Arriving}
-use Rattle.scr_sequencer.specs.Answers.{Answer, Adds, beacons_of, packets_to, sent_to}
+use Rattle.scr_sequencer.specs.Answers.{Answer, Adds, beacons_of, packets_to}
 use Rattle.scr_lane.specs.Messages.{Route, route, SpellsMessage}
-use Rattle.scr_lane.specs.Ends.{End, begun}
-use Rattle.scr_feed.specs.Left.{Left, left_for, NoneToAll, second}
+use Rattle.scr_lane.specs.Ends.{End, FoundNoRoom}
+use Rattle.scr_feed.specs.Left.{Left, messages_of, left_for, NoneToAll, second}
+use Rattle.scr_feed.specs.declared.to_all.ToAll.{ToAll}
 use Rattle.scr_feed.specs.Feeding.{Feeding, IsFed, IsFeeding, IsWhole, due}
 use Rattle.scr_feed.specs.Made.{AreLanes}
 use Rattle.scr_feed.proofs.Due.{next_of_lane, others_left, same_left, given, all_sent}
@@ -80,6 +80,11 @@ pub looked_at : (f : Feeding) (core : ℕ) (before after : End Route) → IsFeed
 looked_at f core before after is below stood about count =
     let fed = subst (IsFed (route f.plan core) (due f core) (left_for f.left core)) (sym stood) (is.fed core before below) in
     changed f core after f.left is below is.cores (same_left (route f.plan core) (due f core) (left_for f.left core) before after fed about count) (λ other within differ. refl)
+
+pub no_room : (f : Feeding) (core : ℕ) (before after : End Route) → IsFeeding f → core < f.plan.cores → before ≡ get_or f.ends core before
+    → FoundNoRoom before after → IsFeeding (with_end f core after f.left)
+no_room f core before after is below stood found =
+    looked_at f core before after is below stood (ap (λ (e : End Route). e.about) found.1) (ap (λ (e : End Route). e.count) found.1)
 
 -- ---- a packet for all lanes
 
@@ -176,6 +181,7 @@ second_core core cores (Some packet) below = λ k d within. one k d within
   where
     it : Arriving
     it = record { core = core; packet = packet; copy = None }
+
     one : (k : ℕ) (d : Arriving) → k < length (it ∷ []) → (get_or (it ∷ []) k d).core < cores
     one zero d within = below
     one (suc k) d within = absurd (omega arith)
@@ -348,4 +354,15 @@ fresh plan capacity sends receives left is lanes to_all frames = record {
             subst (λ (z : (ℕ × List Message) × List (List ℕ)). AllZip Spells (drop z.0.0 z.0.1) z.1)
             (λ i. ((sym count i, sym (lane_so_far-zero plan core) i), sym nothing i)) tt;
       };
+}
+
+-- ---- what a feed shows
+
+abbrev pub shown : (plan : Plan) (taken : ℕ) (ended : Bool) (ends : List (End Route)) (to_all : ToAll) (from : ℕ) (own : Option Arriving) (late : List Arriving) → Feeding
+shown plan taken ended ends to_all from own late = record {
+  plan = plan;
+  taken = taken;
+  ended = ended;
+  ends = ends;
+  left = record { to_all = messages_of to_all; from = from; frames = option_to_list own ++ late };
 }

@@ -9,8 +9,8 @@ ghost use Rattle.scr_feed.specs.Made.{AreLanes};
 
 use crate::making::make_lanes;
 use crate::offering::offer;
-use crate::step::Step;
 use crate::source::Source;
+use crate::step::Step;
 use crate::to_all::{ToAll, beacon_to_all, packet_to_all};
 use crate::waiting::{second, take_first};
 use scr_base::OutOfMemory;
@@ -166,7 +166,9 @@ impl<'a> Feed<'a> {
         ensures feed { IsFeeding self.new }
     {
         let place = self.taken as usize;
-        let next = self.source.next(self.plan.rows()[place], self.fates[place])?;
+        let next = self
+            .source
+            .next(self.plan.rows()[place], self.fates[place])?;
         self.to_all = beacon_to_all(next.beacon);
         self.from = 0;
         self.own = next.own;
@@ -191,7 +193,9 @@ impl<'a> Feed<'a> {
                 self.taken += 1;
             }
             None => {
-                self.to_all = ToAll::End { number: self.plan.rows().len() as u32 };
+                self.to_all = ToAll::End {
+                    number: self.plan.rows().len() as u32,
+                };
                 self.from = 0;
                 self.ended = true;
             }
