@@ -72,6 +72,7 @@ module _ (looked_at : ℕ → Bool) (kept : Fields → Fields) (keeps : Keeps lo
   never : {looked : Bool} → looked ≡ true → looked ≡ false → ⊥
   never is isnt = cc
 
+  -- the program takes its own row, joined with one that has a part of the same frame's fields, as it takes its own
   joined-alike : (arrival : Arrival) (part : Fields) → ArePart part (fields_at arrival)
       → AreAlike looked_at kept (joined (row_keeping looked_at kept arrival.frame arrival.time) (packed part)) (row_keeping looked_at kept arrival.frame arrival.time)
   joined-alike arrival part is = by_test (looked_at whole.kind) refl
