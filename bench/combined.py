@@ -1,13 +1,13 @@
-"""A chain beside its two programs, and tables of rules beside the door, by `scr plain`."""
+"""Steps of a chain beside those of its two programs, and of tables of rules beside those of the door, by `scr run`."""
 from made import KNOCKS, datagrams, write_capture
 from measuring import best_times, report_of
 
-FRAMES = 1_000_000
+FRAMES, CORES = 100_000, 16
 MOST_CHAIN, MOST_TABLE, MOST_RULES = 1.2, 2, 256
 # Nothing is dropped before the second program.
 ALL_PASS = "threshold=4294967295"
 CALLS = {
-    # The tracker looks at no datagram, so that this is the reading and the report alone.
+    # The tracker looks at no datagram, so that this is what goes with a step and is none.
     "no step": ["program=conn"],
     "ddos": ["program=ddos", ALL_PASS],
     "heavy": ["program=heavy"],
@@ -37,20 +37,22 @@ def combined(program, folder):
     """The table of all calls, and whether the tables of rules had the report of the door."""
     path = f"{folder}/combined"
     write_capture(path, FRAMES, datagrams)
-    calls = {**CALLS, "9 rules": ["program=table", f"table={','.join(door())}"],
+    words = {**CALLS, "9 rules": ["program=table", f"table={','.join(door())}"],
              "256 rules": ["program=table", f"table={','.join(many_rules())}"]}
-    calls = {name: [program, "plain", *words] for name, words in calls.items()}
-    same = len({report_of(calls[name], path) for name in ("knock", "9 rules", "256 rules")}) == 1
+    # All cores take all steps, and the capture is read once, whatever their count is.
+    one, all_cores = ([[program, "run", *it, f"cores={cores}", "history=0", "threads=no"] for it in words.values()]
+                      for cores in (1, CORES))
+    same = len({report_of(call, path) for name, call in zip(words, all_cores) if name in ("knock", "9 rules", "256 rules")}) == 1
     if not same:
-        print("plain program=table: the report DIFFERS from that of the door")
-    seconds = dict(zip(calls, best_times(list(calls.values()), path)[1]))
-    steps = {name: 1e9 * (it - seconds["no step"]) / FRAMES for name, it in seconds.items()}
+        print("run program=table: the report DIFFERS from that of the door")
+    seconds = best_times(one + all_cores, path)[1]
+    each = {name: 1e9 * (more - less) / (CORES - 1) / FRAMES for name, less, more in zip(words, seconds, seconds[len(words):])}
+    steps = {name: it - each["no step"] for name, it in each.items()}
     beside = {"chain of both": (steps["ddos"] + steps["heavy"], MOST_CHAIN),
               "9 rules": (steps["knock"], MOST_TABLE), "256 rules": (steps["knock"], MOST_TABLE)}
-    rows = [["plain", "ns of the processor", "of the step", "beside"]]
-    for name, it in seconds.items():
-        ratio = told(steps[name], *beside[name]) if name in beside else ""
-        rows.append([name, f"{1e9 * it / FRAMES:,.0f}", f"{steps[name]:,.0f}", ratio])
+    rows = [["program", "ns a frame and core", "of the step", "beside"]]
+    rows += [[name, f"{each[name]:,.1f}", f"{steps[name]:,.1f}", told(steps[name], *beside[name]) if name in beside else ""]
+             for name in words]
     return rows, same
 
 
