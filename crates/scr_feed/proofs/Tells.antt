@@ -1,10 +1,9 @@
 -- What a step of a feed tells, over the feed that it began with.
-use Rattle.std.proofs.Common.{◌≡◌, ℕ, zero, suc, ◌+◌, ◌<◌, ◌⊎◌, Bool, true, false, List, [], ◌∷◌, ◌++◌, length, set, get_or, Option, Some, None, Result, Ok, Err, sym, refl, ap, ◌∙◌, subst, inl, inr, ⊎_elim, arith}
+use Rattle.std.proofs.Common.{◌≡◌, ℕ, zero, suc, ◌+◌, ◌<◌, true, false, List, [], ◌∷◌, length, get_or, Result, Ok, Err, refl, ap, ◌∙◌, subst, inl, inr, arith}
 use Rattle.std.specs.Prelude.{OnOk, OnErr, is_err}
 use Rattle.scr_lane.specs.Messages.{Route}
-use Rattle.scr_lane.specs.Ends.{End, HasLooked, Found, FoundNoRoom, moved}
-use Rattle.scr_feed.specs.declared.step.Step.{Step}
-use Rattle.scr_feed.specs.declared.step.Step.TheVariants.{Taken, Sent, Full, Done}
+use Rattle.scr_lane.specs.Ends.{End, HasLooked, FoundNoRoom}
+use Rattle.scr_feed.specs.declared.step.Step.TheVariants.{Sent, Full}
 use Rattle.scr_feed.specs.Left.{Left}
 use Rattle.scr_feed.specs.Feeding.{Feeding, IsFeeding}
 use Rattle.scr_feed.specs.Steps.{HasSent, Changes, StepTells}

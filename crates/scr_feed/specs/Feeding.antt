@@ -1,16 +1,16 @@
 -- What a feed of the lanes of a plan has done so far.
-use Rattle.std.specs.Prelude.{◌≡◌, ℕ, ◌<◌, ◌≤◌, Bool, true, List, length, drop, slice_index_or, if◌then◌else◌}
+use Rattle.std.specs.Prelude.{◌≡◌, ℕ, ◌<◌, ◌≤◌, Bool, true, List, All, length, drop, slice_index_or, if◌then◌else◌}
 use Rattle.std.specs.List.{AllZip}
-use Rattle.scr_plan.specs.Plan.{Plan, IsPlan, frame_count}
+use Rattle.scr_plan.specs.Plan.{Plan, IsPlan}
 use Rattle.scr_wire.specs.declared.message.Message.{Message}
 use Rattle.scr_wire.specs.Spelling.{Spells}
-use Rattle.scr_wire.specs.Lane.{lane, lane_so_far}
+use Rattle.scr_wire.specs.Lane.{lane, lane_so_far, last_step}
 use Rattle.scr_lane.specs.Messages.{Route, route}
 use Rattle.scr_lane.specs.Ends.{End}
 use Rattle.scr_feed.specs.Left.{Left, left_for}
 
--- the plan, how many of its numbers were taken and whether the end was, the ends of the lanes, core by core, and what of
--- all that isn't sent yet
+-- the plan, how many of its steps were taken and whether the end was, the ends of the lanes, core by core, and what of all
+-- that isn't sent yet
 pub record Feeding : Type 0 where
   pub plan : Plan
   pub taken : ℕ
@@ -18,7 +18,7 @@ pub record Feeding : Type 0 where
   pub ends : List (End Route)
   pub left : Left
 
--- the messages that are due in the lane of a core: what the numbers taken add to it, and the end where it was taken
+-- the messages that are due in the lane of a core: what the steps taken add to it, and the end where it was taken
 abbrev pub due : Feeding → (core : ℕ) → List Message
 due feed core = if feed.ended then lane feed.plan core else lane_so_far feed.plan core feed.taken
 
@@ -31,9 +31,10 @@ pub record IsFed (route : Route) (due : List Message) (left : List (List ℕ)) (
 -- what is true of every feed
 pub record IsFeeding (feed : Feeding) : Type 0 where
   pub plan : IsPlan feed.plan
-  pub within : feed.taken ≤ frame_count feed.plan
-  pub all_taken : feed.ended ≡ true → feed.taken ≡ frame_count feed.plan
+  pub within : feed.taken ≤ last_step feed.plan
+  pub all_taken : feed.ended ≡ true → feed.taken ≡ last_step feed.plan
   pub each_core : length feed.ends ≡ feed.plan.cores
+  pub cores : All (λ it. it.core < feed.plan.cores) feed.left.frames
   pub fed :
       (core : ℕ) (end : End Route) → core < feed.plan.cores
       → IsFed (route feed.plan core) (due feed core) (left_for feed.left core) (slice_index_or feed.ends core end)

@@ -1,7 +1,7 @@
 /// What a step of a feed did.
 #[derive(Clone, Copy, Debug, PartialEq, Eq)]
 pub enum Step {
-    /// It took what the next number adds to the lanes, or the end.
+    /// It took what the next step of the plan adds to the lanes, or the end.
     Taken,
     /// It sent a packet to the lane of this core.
     Sent { core: u32 },

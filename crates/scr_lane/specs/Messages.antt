@@ -2,6 +2,7 @@
 use Rattle.std.specs.Prelude.{◌≡◌, ℕ, zero, suc, ◌<◌, List, [], ◌∷◌, length, Some}
 use Rattle.std.specs.List.{slice_get}
 use Rattle.std.proofs.Common.{arith}
+use Rattle.scr_plan.specs.Link.{empty_link}
 use Rattle.scr_plan.specs.Plan.{Plan}
 use Rattle.scr_wire.specs.declared.message.Message.{Message}
 use Rattle.scr_wire.specs.Lane.{lane}
@@ -17,7 +18,7 @@ route plan core = record { plan = plan; core = core }
 
 -- a lane of no plan
 abbrev pub no_route : Route
-no_route = route (record { rows = []; cores = 1; history = 0; drops = [] }) 0
+no_route = route (record { rows = []; cores = 1; history = 0; link = empty_link }) 0
 
 -- how many messages it has
 abbrev pub message_count : Route → ℕ

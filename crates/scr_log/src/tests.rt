@@ -4,7 +4,7 @@ ghost use Rattle.scr_log.specs.Passes.{IsNext, IsCurrent};
 
 use crate::{CorePass, Logs, Look, Room};
 use scr_base::{OutOfMemory, Row};
-use scr_plan::{DropError, Drops, RunPlan};
+use scr_plan::{DropError, Drops, Link, RunPlan};
 use std::alloc::Global;
 use std::sync::Wait;
 use std::test::Fail;
@@ -33,7 +33,7 @@ fn two_cores(alloc: Global, packets: usize, history: u32, dropped: &[u8]) -> Res
 {
     let rows = vec![in alloc; ROW; packets]?;
     let drops = Drops::read(alloc, dropped)?;
-    Ok(RunPlan::make(rows, 2, history, drops))
+    Ok(RunPlan::make(rows, 2, history, Link::dropping(alloc, drops)))
 }
 
 // Publishes the final entry for packet p, where the slot is free.

@@ -1,5 +1,5 @@
 -- The pieces of a list of delays, read one after another.
-use Rattle.std.proofs.Common.{◌≡◌, ◌≢◌, ℕ, suc, ◌+◌, ◌<◌, ◌≤◌, List, [], ◌∷◌, ◌++◌, length, get_or, take, map, Bool, true, false, cond, eqb, leb, ltb, not, min, ◌-◌, ◌^◌, ◌&&◌, Result, Ok, Err, inl, inr, arith, refl, sym, ap, ◌∙◌, subst}
+use Rattle.std.proofs.Common.{◌≡◌, ◌≢◌, ℕ, suc, ◌+◌, ◌<◌, ◌≤◌, List, [], ◌∷◌, ◌++◌, length, get_or, take, map, Bool, true, false, cond, eqb, leb, min, ◌-◌, ◌^◌, ◌&&◌, Result, Ok, Err, inl, inr, arith, refl, sym, ap, ◌∙◌, subst}
 use Rattle.std.specs.List.{list_any}
 use Rattle.std.specs.Result.{IsOk}
 use Rattle.std.proofs.lemmas.Bool.{cases_lt}
@@ -13,7 +13,7 @@ use Rattle.scr_plan.specs.Spelling.{pieces_of, has_byte, in_front, behind, place
 use Rattle.scr_plan.specs.DelaySpelling.{has_zero, has_large, named_frame, delay_with, delay_read, delay_read_at, SpellsDelays, IsDelayRefused}
 use Rattle.scr_plan.specs.declared.delays.FrameDelay.{FrameDelay}
 use Rattle.scr_plan.specs.declared.reading_delays.DelayCause.{DelayCause}
-use Rattle.scr_plan.specs.declared.reading_delays.DelayCause.TheVariants.{Empty, Digit, Zero, TooLarge, Twice, Pieces}
+use Rattle.scr_plan.specs.declared.reading_delays.DelayCause.TheVariants.{Digit, Zero, TooLarge, Twice, Pieces}
 
 -- the frames of these delays
 abbrev pub frames_of : List FrameDelay → List ℕ

@@ -1,9 +1,9 @@
 -- Who is delivered, and to whom.
-use Rattle.std.proofs.Common.{◌≡◌, ◌≢◌, ℕ, ◌≤◌, [], Bool, true, false, ◌&&◌, arith, refl, ap, ◌∙◌}
+use Rattle.std.proofs.Common.{◌≡◌, ◌≢◌, ℕ, true, false, arith}
 use Rattle.std.specs.Bool.{Decides}
 use Rattle.std.proofs.lemmas.Bool.{false_from_ne_true}
 use Rattle.std.proofs.lemmas.Bool.Decides.{nat_tests}
-use Rattle.scr_plan.specs.Plan.{Plan, frame_count}
+use Rattle.scr_plan.specs.Plan.{Plan}
 use Rattle.scr_plan.specs.Order.{sends}
 use Rattle.scr_plan.specs.Delivered.{IsDelivered, IsDeliveredTo, delivers, delivers_to, core_number}
 use Rattle.scr_plan.proofs.Each.{first}

@@ -3,7 +3,9 @@ use Rattle.std.proofs.Common.{◌≡◌, ℕ, zero, suc, ◌<◌, ◌≤◌, Boo
 use Rattle.std.specs.List.{All, list_any}
 use Rattle.std.proofs.lemmas.Bool.Decides.{nat_tests}
 use Rattle.scr_plan.specs.Delays.{greatest_delay, IsDelay, delay_of}
+use Rattle.scr_plan.specs.Link.{Link, IsLink, loses, repeats, delays_by, fate_of, delay_in}
 use Rattle.scr_plan.specs.declared.delays.FrameDelay.{FrameDelay}
+use Rattle.scr_plan.specs.declared.link.Fate.TheVariants.{Lost, Once, Twice}
 
 -- a search among the frames
 pub named_frames : (delays : List FrameDelay) (n : ℕ) → list_any (λ m. eqb m n) (map (λ it. it.frame) delays) ≡ list_any (λ it. eqb it.frame n) delays
@@ -43,3 +45,13 @@ delay_of-near (it ∷ delays) n each =
     by : (b : Bool) → it.steps ≤ greatest_delay → delay_of delays n ≤ greatest_delay → cond b it.steps (delay_of delays n) ≤ greatest_delay
     by true here others = here
     by false here others = others
+
+-- nor that of a fate
+pub fate_of-near : (link : Link) (n : ℕ) → IsLink link → delay_in (fate_of link n) ≤ greatest_delay
+fate_of-near link n is = by (loses link n) (repeats link n) (delay_of-near link.delays n is.delay_list.each)
+  where
+    by : (lost twice : Bool) → delays_by link n ≤ greatest_delay
+        → delay_in (cond lost Lost (cond twice (Twice (delays_by link n)) (Once (delays_by link n)))) ≤ greatest_delay
+    by true twice near = omega arith
+    by false true near = near
+    by false false near = near

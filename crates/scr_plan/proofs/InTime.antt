@@ -1,15 +1,15 @@
 -- A frame is delivered by the order of its core's lane just where it is by numbers.
 use Rattle.std.proofs.Common.{◌≡◌, ◌≢◌, ℕ, ◌+◌, ◌-◌, ◌<◌, ◌≤◌, ◌⊎◌, Bool, true, false, cond, ◌&&◌, not, List, [], ◌∷◌, ◌++◌, inl, inr, arith, refl, sym, ap, subst, ◌∙◌, append_assoc, eqb, ltb}
 use Rattle.std.specs.List.{list_all, flat_map, range_with_len, before_first}
-use Rattle.std.proofs.lemmas.Bool.{false_from_ne_true, cases_lt}
+use Rattle.std.proofs.lemmas.Bool.{cases_lt}
 use Rattle.std.proofs.lemmas.Bool.Decides.{nat_tests}
 use Rattle.scr_plan.specs.Delays.{greatest_delay}
-use Rattle.scr_plan.specs.Link.{loses, repeats, delays_by}
+use Rattle.scr_plan.specs.Link.{loses, repeats}
 use Rattle.scr_plan.specs.Plan.{Plan, frame_count}
-use Rattle.scr_plan.specs.Order.{Item, Beacon, Frame, sends, core_number, comes_at, copies, frame_at, frames_at, has_beacon, beacon_at, items_at, items_to, order}
+use Rattle.scr_plan.specs.Order.{Item, Beacon, Frame, sends, core_number, comes_at, copies, frame_at, frames_at, beacon_at, items_to, order}
 use Rattle.scr_plan.specs.Delivered.{number_of, is_frame, ahead_of, delivers}
 use Rattle.scr_plan.specs.Overtaken.{IsAhead, comes_before}
-use Rattle.scr_plan.proofs.Each.{Each, first, Each-append, Each-front, Each-back, Each-lists, Each-list, before_first-is}
+use Rattle.scr_plan.proofs.Each.{Each, Each-append, Each-front, Each-back, Each-lists, before_first-is}
 use Rattle.scr_plan.proofs.OrderGrows.{order-at, frames-at}
 use Rattle.scr_plan.proofs.Steps.{Comes, sends-within, sends-free, Each-items_to, of_items_to-beacon, of_items_to-frame, Each-beacon_at, of_beacon_at, Each-frame_at, of_frame_at}
 

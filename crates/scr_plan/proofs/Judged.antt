@@ -1,7 +1,6 @@
 -- Whether a frame is delivered, judged by the link alone.
 use Rattle.std.proofs.Common.{◌≡◌, ◌≢◌, ℕ, ◌+◌, ◌<◌, ◌≤◌, Bool, true, false, cond, not, Option, Some, None, refl, sym, ap, subst, ◌∙◌, arith}
 use Rattle.std.proofs.lemmas.Bool.{false_from_ne_true}
-use Rattle.std.proofs.lemmas.Bool.Decides.{nat_tests}
 use Rattle.scr_plan.specs.Delays.{greatest_delay}
 use Rattle.scr_plan.specs.Link.{Link, loses, delays_by}
 use Rattle.scr_plan.specs.Plan.{Plan, HasParts, frame_count}

@@ -15,4 +15,5 @@ pub mod Spelled
 pub mod FrameDelays
 pub mod DelaysSpelled
 pub mod Ranges
+pub mod Marking
 pub mod OneReading

@@ -1,12 +1,11 @@
 -- What the steps of a lane's order hold.
-use Rattle.std.proofs.Common.{◌≡◌, ℕ, suc, ◌+◌, ◌-◌, ◌<◌, ◌≤◌, Bool, true, false, cond, ◌&&◌, not, List, [], ◌∷◌, ◌++◌, inl, inr, arith, refl, sym, ap, subst, ◌∙◌, append_assoc, eqb, leb}
-use Rattle.std.specs.List.{list_all, flat_map, range_with_len}
+use Rattle.std.proofs.Common.{◌≡◌, ℕ, ◌-◌, ◌≤◌, Bool, true, false, cond, ◌&&◌, List, [], ◌∷◌, inl, inr, arith, refl, subst, eqb, leb}
+use Rattle.std.specs.List.{flat_map, range_with_len}
 use Rattle.std.proofs.lemmas.Bool.{cases_lt}
 use Rattle.std.proofs.lemmas.Bool.Decides.{nat_tests}
-use Rattle.scr_plan.specs.Delays.{greatest_delay}
-use Rattle.scr_plan.specs.Link.{loses, repeats, delays_by}
+use Rattle.scr_plan.specs.Link.{loses, repeats}
 use Rattle.scr_plan.specs.Plan.{Plan, frame_count}
-use Rattle.scr_plan.specs.Order.{Item, Beacon, Frame, sends, core_number, comes_at, copies, frame_at, frames_at, has_beacon, beacon_at, items_at, items_to, order}
+use Rattle.scr_plan.specs.Order.{Item, Beacon, Frame, sends, core_number, comes_at, frame_at, frames_at, has_beacon, beacon_at, items_at, items_to}
 use Rattle.scr_plan.proofs.Each.{Each, first, Each-append, Each-front, Each-back, Each-lists, Each-list}
 
 -- frame n is sent to this core, and comes at this step

@@ -1,6 +1,6 @@
 -- A list of delays as text. It is empty, or pieces parted by commas. A piece is `n:d`, where n and d are decimal numbers
 -- of any length, with any zeros in front: frame n comes d steps late.
-use Rattle.std.specs.Prelude.{◌≡◌, ℕ, ◌<◌, Bool, ◌&&◌, ◌||◌, not, List, [], ◌∷◌, length, take, map, Result, Ok, Err, ◌==◌, nat_lt, nat_le, if◌then◌else◌}
+use Rattle.std.specs.Prelude.{◌≡◌, ℕ, ◌<◌, Bool, ◌&&◌, ◌||◌, List, [], ◌∷◌, length, take, map, Result, Ok, Err, ◌==◌, nat_lt, nat_le, if◌then◌else◌}
 use Rattle.std.specs.List.{list_any, slice_index_or}
 use Rattle.std.specs.Result.{IsOk}
 use Rattle.scr_base.specs.Numbers.{is_number, number_of}

@@ -1,5 +1,5 @@
 -- A list of delays: the frames that come later, and by how many steps.
-use Rattle.std.specs.Prelude.{◌≡◌, ◌≢◌, ℕ, ◌<◌, ◌≤◌, List, [], ◌∷◌, All, length, slice_index_or, ◌==◌, if◌then◌else◌}
+use Rattle.std.specs.Prelude.{◌≢◌, ℕ, ◌<◌, ◌≤◌, List, [], ◌∷◌, All, length, slice_index_or, ◌==◌, if◌then◌else◌}
 use Rattle.scr_plan.specs.Drops.{greatest_number, most_ranges}
 use Rattle.scr_plan.specs.declared.delays.FrameDelay.{FrameDelay}
 

@@ -1,9 +1,10 @@
-ghost use Rattle.std.specs.Prelude.{◌≡◌, ◌≤◌, List, [], MatchResult};
-ghost use Rattle.scr_plan.specs.Drops.{IsDropList, has_number, range_has};
+ghost use Rattle.std.specs.Prelude.{◌≡◌, ◌≤◌, ◌<◌, ◌+◌, ℕ, false, ◌||◌, List, [], length, slice_index_or, MatchResult, IfOk};
+ghost use Rattle.scr_plan.specs.Drops.{IsDropList, IsRange, has_number, range_has};
 ghost use Rattle.scr_plan.specs.Spelling.{Spells, RefusedBy};
 ghost use Rattle.scr_plan.specs.declared.drops.DropRange.{DropRange};
 
 use crate::reading::{DropError, read_ranges};
+use scr_base::OutOfMemory;
 use std::alloc::Global;
 use std::marker::Model;
 
@@ -24,6 +25,19 @@ impl DropRange {
         ensures { result ≡ range_has self.now n }
     {
         self.first <= n && n <= self.last && (n - self.first) % self.step == 0
+    }
+
+    // Marks the numbers that it has, of those from 1 on.
+    fn mark(&self, marks: &mut [bool])
+        requires { IsRange self.now }
+        ensures { (k : ℕ) → k < length marks.old → slice_index_or marks.new k false ≡ (slice_index_or marks.old k false || range_has self.now (k + 1)) }
+    {
+        let last = (self.last as usize).min(marks.len());
+        let mut n = self.first as usize;
+        while n <= last {
+            marks[n - 1] = true;
+            n += self.step as usize;
+        }
     }
 }
 
@@ -71,5 +85,17 @@ impl Drops {
             }
         }
         false
+    }
+
+    /// Of the numbers from 1 to `count`, in order, whether one of the ranges has each. Each range is gone through once.
+    pub fn marks(&self, alloc: Global, count: usize) -> Result<Vec<bool>, OutOfMemory>
+        ensures count { IfOk result (λ marks. length marks.items ≡ count) }
+        ensures marks { IfOk result (λ marks. (k : ℕ) → k < count → slice_index_or marks.items k false ≡ has_number self.now (k + 1)) }
+    {
+        let mut marks = vec![in alloc; false; count]?;
+        for range in &self.ranges {
+            range.mark(&mut marks);
+        }
+        Ok(marks)
     }
 }

@@ -3,8 +3,8 @@
 //! **What it does.** Frame n of a run carries packet n and, as history, some packets before it; the cores take the
 //! frames in turn ([`core_of`], [`carried_from`]). A [`Link`] lies between the sequencer and the cores: it loses frames,
 //! brings them twice, or brings them later. Its lists are read from text by [`Drops::read`] and [`Delays::read`], which
-//! tell the cause and the place of the first piece that is refused. [`Link::fate`] tells what becomes of a frame, and
-//! [`Link::delivered`] whether it comes in time. [`kept`] tells whether any delivered frame carries a packet, and
+//! tell the cause and the place of the first piece that is refused. [`Link::fate`] tells what becomes of a frame, [`Link::fates`]
+//! of all, and [`Link::delivered`] whether one comes in time. [`kept`] tells whether any delivered frame carries a packet, and
 //! [`counts`] what one core does. A [`RunPlan`] holds what a run is made of.
 //!
 //! **What a contract sees.** A drop list as its list of ranges, delays as a list of frames and steps, a link as the record
@@ -24,10 +24,12 @@
 //! **What is only tested.** That there can be memory for a list, and the counts and late frames of worked runs.
 //!
 //! **Limits.** At most 1,000,000 packets, 16 cores, a history of 64, and lists of 256 pieces with numbers up to
-//! 1,000,000,000 and delays up to 1,000 steps. [`Link::fate`] goes once over each list. A frame without delay costs
+//! 1,000,000,000 and delays up to 1,000 steps. [`Link::fate`] goes once over each list, for each frame that it is asked of;
+//! [`Link::fates`] once for all frames, and costs their number and that of the numbers that the pieces name. A frame without
+//! delay costs
 //! [`Link::delivered`] one look-up; a late one also looks at the frames of its core up to the step at which it comes.
 //! [`counts`] asks once a frame, whatever the history, and [`kept`] at most once for each frame that may carry the packet.
-//! Only [`Drops::read`] and [`Delays::read`] take memory.
+//! Only [`Drops::read`], [`Delays::read`] and the calls that answer for all frames take memory.
 #![tactic(auto)]
 
 mod carrying;

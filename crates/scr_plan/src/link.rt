@@ -1,4 +1,4 @@
-ghost use Rattle.std.specs.Prelude.{◌≡◌, ◌≢◌, ◌≤◌, ◌<◌, ◌+◌, [], true, Some, None, IfSome, if◌then◌else◌};
+ghost use Rattle.std.specs.Prelude.{◌≡◌, ◌≢◌, ◌≤◌, ◌<◌, ◌+◌, ℕ, [], All, length, slice_index_or, true, false, Some, None, IfSome, IfOk, ◌||◌, ◌==◌, if◌then◌else◌};
 ghost use Rattle.scr_plan.specs.Limits.{most_packets, most_cores};
 ghost use Rattle.scr_plan.specs.Delays.{greatest_delay};
 ghost use Rattle.scr_plan.specs.Link.{Link, IsLink, loses, delays_by, fate_of, delay_in};
@@ -9,6 +9,7 @@ ghost use Rattle.scr_plan.specs.Overtaken.{IsAhead, comes_before};
 use crate::carrying::core_of;
 use crate::delays::Delays;
 use crate::drops::Drops;
+use scr_base::OutOfMemory;
 use std::alloc::Global;
 use std::marker::Model;
 
@@ -27,6 +28,19 @@ pub enum Fate {
 }
 
 impl Fate {
+    // The fate of a frame that is lost or comes so many steps late, once or twice.
+    fn of(lost: bool, twice: bool, delay: u32) -> Fate
+        ensures { result ≡ (if lost then Fate.Lost else (if twice then Fate.Twice delay else Fate.Once delay)) }
+    {
+        if lost {
+            Fate::Lost
+        } else if twice {
+            Fate::Twice { delay }
+        } else {
+            Fate::Once { delay }
+        }
+    }
+
     /// By how many steps the frame comes later, or 0.
     pub fn delay(self) -> u32
         ensures { result ≡ delay_in self }
@@ -65,6 +79,17 @@ impl Model for Link {
     }) };
 }
 
+// Marks a number, of those from 1 on.
+fn mark(number: u32, marks: &mut [bool])
+    requires { 1 ≤ number }
+    ensures { (k : ℕ) → k < length marks.old → slice_index_or marks.new k false ≡ (slice_index_or marks.old k false || (number == k + 1)) }
+{
+    let place = number as usize - 1;
+    if place < marks.len() {
+        marks[place] = true;
+    }
+}
+
 impl Link {
     /// The link with these lists. No frame is missing.
     pub fn make(alloc: Global, drops: Drops, repeats: Drops, delays: Delays) -> Self
@@ -92,7 +117,7 @@ impl Link {
         ensures answer { result ≡ loses self.now n }
         ensures ranges { IsLink self.now }
     {
-        self.drops.has(n) || self.missing.contains(&n)
+        self.drops.has(n) || self.missing.binary_search(&n).is_ok()
     }
 
     // By how many steps frame n comes late, where it arrives.
@@ -123,6 +148,34 @@ impl Link {
         } else {
             Fate::Once { delay }
         }
+    }
+
+    // Of the frames 1 to `count`, in order, whether each doesn't arrive.
+    fn losses(&self, alloc: Global, count: usize) -> Result<Vec<bool>, OutOfMemory>
+        ensures count { IfOk result (λ losses. length losses.items ≡ count) }
+        ensures losses { IfOk result (λ losses. (k : ℕ) → k < count → slice_index_or losses.items k false ≡ loses self.now (k + 1)) }
+    {
+        let mut losses = self.drops.marks(alloc, count)?;
+        for n in &self.missing {
+            mark(*n, &mut losses);
+        }
+        Ok(losses)
+    }
+
+    /// What becomes of the frames 1 to `count`, in order. Each list is gone through once, however many frames there are.
+    pub fn fates(&self, alloc: Global, count: usize) -> Result<Vec<Fate>, OutOfMemory>
+        ensures count { IfOk result (λ fates. length fates.items ≡ count) }
+        ensures fates { IfOk result (λ fates. (k : ℕ) (d : Fate) → k < count → slice_index_or fates.items k d ≡ fate_of self.now (k + 1)) }
+        ensures near { IfOk result (λ fates. All (λ fate. delay_in fate ≤ greatest_delay) fates.items) }
+    {
+        let losses = self.losses(alloc, count)?;
+        let repeats = self.repeats.marks(alloc, count)?;
+        let steps = self.delays.steps(alloc, count)?;
+        let mut fates = Vec::with_capacity(alloc, count)?;
+        for i in 0..count {
+            fates.push(Fate::of(losses[i], repeats[i], steps[i]))?;
+        }
+        Ok(fates)
     }
 
     /// Whether frame n of t is delivered to its core, one of k: it arrives, and before any beacon and any frame of its

@@ -1,12 +1,16 @@
-ghost use Rattle.std.specs.Prelude.{◌≡◌, ◌≤◌, length};
+ghost use Rattle.std.specs.Prelude.{◌≡◌, ◌≤◌, ◌<◌, ◌+◌, ℕ, All, length, slice_index_or, IfOk};
+ghost use Rattle.scr_plan.specs.Delays.{greatest_delay};
+ghost use Rattle.scr_plan.specs.Link.{fate_of, delay_in};
+ghost use Rattle.scr_plan.specs.declared.link.Fate.{Fate};
 ghost use Rattle.scr_plan.specs.Limits.{most_packets, most_cores, longest_history};
 ghost use Rattle.scr_plan.specs.Plan.{Plan, IsPlan};
 ghost use Rattle.scr_plan.specs.Kept.{carries_to};
 ghost use Rattle.scr_plan.specs.FinalEntry.{final_entry};
 
 use crate::carrying::core_of;
-use crate::link::Link;
-use scr_base::Row;
+use crate::link::{Fate, Link};
+use scr_base::{OutOfMemory, Row};
+use std::alloc::Global;
 use std::marker::Model;
 
 /// What a run is made of: the rows of its packets, the cores, how many earlier packets a frame carries besides its own,
@@ -88,6 +92,16 @@ impl RunPlan {
         ensures ranges { IsPlan self.now }
     {
         &self.link
+    }
+
+    /// What becomes of each frame on the link, from frame 1 on. The link's lists are gone through once.
+    pub fn fates(&self, alloc: Global) -> Result<Vec<Fate>, OutOfMemory>
+        ensures count { IfOk result (λ fates. length fates.items ≡ length self.now.rows) }
+        ensures fates { IfOk result (λ fates. (k : ℕ) (d : Fate) → k < length self.now.rows → slice_index_or fates.items k d ≡ fate_of self.now.link (k + 1)) }
+        ensures near { IfOk result (λ fates. All (λ fate. delay_in fate ≤ greatest_delay) fates.items) }
+        ensures ranges { IsPlan self.now }
+    {
+        self.link.fates(alloc, self.rows.len())
     }
 
     /// Whether a frame that is delivered to this core carries packet p.

@@ -400,7 +400,11 @@ fn late_frames_that_are_overtaken_are_lost(rt: HostRuntime) -> Result<(), Fail> 
         let link = link_of(rt.alloc(), drops, b"", delays).ok_or("a link")?;
         for n in 1..=frames {
             let goes = link.fate(n) != Fate::Lost && !lost.contains(&n);
-            assert_eq!(rt; link.delivered(cores, frames, n), goes, "at {n} of {delays:?}");
+            assert_eq!(rt;
+                link.delivered(cores, frames, n),
+                goes,
+                "at {n} of {delays:?}"
+            );
         }
     }
     Ok(())

@@ -1,11 +1,12 @@
 -- Behind the first rows of a plan, a sequencer that is given its next row stands behind one row more.
-use Rattle.std.proofs.Common.{◌≡◌, ◌≢◌, ℕ, zero, suc, ◌+◌, ◌-◌, ◌<◌, ◌≤◌, Bool, true, false, cond, not, ◌&&◌, List, [], ◌∷◌, ◌++◌, length, get_or, take, drop, max, Some, None, refl, sym, ap, subst, ◌∙◌, ⊎_elim, arith, eqb}
+use Rattle.std.proofs.Common.{◌≡◌, ◌≢◌, ℕ, zero, suc, ◌+◌, ◌-◌, ◌<◌, ◌≤◌, Bool, true, false, cond, not, ◌&&◌, List, [], ◌∷◌, ◌++◌, length, get_or, take, drop, max, Some, None, refl, sym, ap, subst, ◌∙◌, ⊎_elim, arith, eqb, replicate, map}
 use Rattle.std.specs.List.{flat_map, range_with_len}
 use Rattle.std.proofs.lemmas.Bool.{cases_lt, false_from_ne_true}
 use Rattle.std.proofs.lemmas.Bool.Decides.{nat_tests}
 use Rattle.std.proofs.lemmas.List.{length-append, length-drop, length-take-le, take_more, drop-drop, drop-append-le}
 use Rattle.std.proofs.lemmas.List.FromFn.{get_or-map-range_with_len, length-map-range_with_len}
 use Rattle.std.proofs.lemmas.Option.{get_or_from_slice_get, slice_get_within}
+use Rattle.std.proofs.Math.Seq.{drop-nil}
 use Rattle.circular_buffer.specs.Buffer.{keep_last}
 use Rattle.scr_base.specs.declared.row.Row.{Row}
 use Rattle.scr_plan.specs.Delays.{greatest_delay}
@@ -20,7 +21,7 @@ use Rattle.scr_plan.proofs.Steps.{sends-within, sends-free}
 use Rattle.scr_wire.specs.declared.message.Message.TheVariants.{Frame}
 use Rattle.scr_wire.specs.Spelling.{HasSpelling, spelling}
 use Rattle.scr_wire.specs.Lane.{frame, rows_carried}
-use Rattle.scr_sequencer.specs.Sequence.{Arriving, Sequence, steps_ahead, after, carried_next, arriving, due}
+use Rattle.scr_sequencer.specs.Sequence.{Arriving, Sequence, steps_ahead, after, carried_next, arriving, due, begun, nothing_held}
 use Rattle.scr_sequencer.specs.Answers.{on_its_way, coming, held_for, held_of, Follows, IsNext}
 use Rattle.scr_sequencer.proofs.Rotating.{given, own, own-given, held_next, held_next-at, held_next-length, rotated}
 
@@ -195,3 +196,22 @@ module _ (plan : Plan) (s : Sequence) (row : Row) (fate : Fate) (follows : Follo
         held = held_then;
         fits = fits_next fits;
       }
+
+-- ---- a new sequencer
+
+no_frames : (f : ℕ → List Arriving) (a n : ℕ) → ((k : ℕ) → f k ≡ []) → replicate n [] ≡ map f (range_with_len a n)
+no_frames f a zero none = refl
+no_frames f a (suc n) none = λ i. sym (none a) i ∷ no_frames f (a + 1) n none i
+
+-- it was given no row
+pub follows_none : (plan : Plan) → IsPlan plan → Follows plan (begun plan.cores plan.history)
+unfolding held_of nothing_held
+follows_none plan is = record {
+  is_plan = is;
+  cores = refl;
+  history = refl;
+  taken = omega arith;
+  rows = sym (drop-nil (0 - (plan.history + 1)));
+  held = no_frames (held_for plan 0) 1 steps_ahead (λ k. refl);
+  fits = λ n to sent. let from = (sends-within plan n sent).0 in absurd (omega arith);
+}

@@ -217,6 +217,7 @@ impl Rest {
     pub fn step(&mut self) -> Option<Vec<Arriving>>
         ensures some { IfSome result (λ frames. self.old.held ≡ frames.items ∷ self.new.held) }
         ensures none { IfNone result (self.old.held ≡ []) }
+        ensures over { IfNone result (self.new ≡ self.old) }
         ensures end { self.new.end ≡ self.old.end }
     {
         self.held.pop_front()

@@ -1,4 +1,4 @@
-use Rattle.std.proofs.Common.{◌≡◌, ◌+◌, List, sym, subst}
+use Rattle.std.proofs.Common.{◌+◌, List, sym, subst}
 use Rattle.scr_lane.specs.Messages.{Route}
 use Rattle.scr_lane.specs.Ends.{End}
 use Rattle.scr_feed.specs.Made.{AreLanes}

@@ -1,4 +1,4 @@
-use Rattle.std.proofs.Common.{◌≡◌, ◌≤◌, ◌+◌, ℕ, false, ap, ◌∙◌, inl, inr, sym, arith, below_more}
+use Rattle.std.proofs.Common.{◌≡◌, ◌≤◌, ℕ, false, ap, ◌∙◌, inl, inr, sym, arith, below_more}
 use Rattle.std.proofs.lemmas.Bool.{cases_lt}
 use Rattle.scr_plan.specs.Delivered.{delivers}
 use Rattle.scr_plan.proofs.Packets.{kept-near, kept-by_none}

@@ -1,4 +1,4 @@
-use Rattle.std.proofs.Common.{◌≡◌, ◌≤◌, ◌-◌, ℕ, List, true, false, sym, ap, ◌∙◌, arith, refl, replicate, subst}
+use Rattle.std.proofs.Common.{◌≡◌, ◌≤◌, ◌-◌, ℕ, true, false, sym, ap, ◌∙◌, arith, refl, replicate, subst}
 use Rattle.std.proofs.lemmas.List.{length-replicate}
 use Rattle.scr_plan.specs.Link.{Link}
 use Rattle.scr_plan.specs.declared.counting.Tally.{Tally}

@@ -1,4 +1,4 @@
-use Rattle.std.proofs.Common.{◌≡◌, ◌-◌}
+use Rattle.std.proofs.Common.{◌-◌}
 use Rattle.scr_plan.specs.Plan.{Plan, HasParts}
 use Rattle.scr_plan.proofs.Tallies.{AreTallies}
 use Rattle.scr_plan.proofs.counting.counts.Given as goal

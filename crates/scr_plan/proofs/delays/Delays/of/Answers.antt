@@ -1,6 +1,6 @@
-use Rattle.std.proofs.Common.{◌≡◌, ℕ, List, take, false, sym, take_all, subst, ap, ◌∙◌, eqb}
+use Rattle.std.proofs.Common.{◌≡◌, List, take, false, sym, take_all, subst, ap, ◌∙◌, eqb}
 use Rattle.std.specs.List.{list_any}
-use Rattle.scr_plan.specs.Delays.{IsDelayList, delay_of}
+use Rattle.scr_plan.specs.Delays.{IsDelayList}
 use Rattle.scr_plan.specs.declared.delays.FrameDelay.{FrameDelay}
 use Rattle.scr_plan.proofs.FrameDelays.{delay_of-found, delay_of-none}
 use Rattle.scr_plan.proofs.delays.Delays.of.Goals as goal

@@ -1,7 +1,7 @@
-use Rattle.std.proofs.Common.{◌≡◌, ◌≤◌, ◌<◌, ◌+◌, ℕ, true, false, sym, subst, refl, ◌∙◌, arith, eqb}
+use Rattle.std.proofs.Common.{◌≡◌, ◌≤◌, ◌+◌, ℕ, true, sym, subst, ◌∙◌, arith, eqb}
 use Rattle.std.proofs.lemmas.Bool.Decides.{nat_tests}
 use Rattle.scr_plan.specs.Delays.{greatest_delay}
-use Rattle.scr_plan.specs.Link.{loses, delays_by}
+use Rattle.scr_plan.specs.Link.{delays_by}
 use Rattle.scr_plan.proofs.Judged.{late-some, late-none, turned, judged-lost, judged-prompt, judged-ahead, judged-behind}
 use Rattle.scr_plan.proofs.link.Link.delivered.Goals as goal
 

@@ -1,9 +1,6 @@
-use Rattle.std.proofs.Common.{◌≡◌, ◌≢◌, ◌≤◌, ◌<◌, ◌+◌, ◌-◌, ◌*◌, ◌/◌, ◌%◌, ℕ, true, false, sym, ap, subst, refl, ◌∙◌, arith, inl, inr}
-use Rattle.std.proofs.lemmas.Bool.{cases_lt}
+use Rattle.std.proofs.Common.{◌≡◌, ◌<◌, ◌+◌, ◌-◌, ◌*◌, ◌/◌, ◌%◌, ℕ, true, arith}
 use Rattle.std.proofs.lemmas.Bool.Decides.{nat_tests}
-use Rattle.scr_plan.specs.Link.{Link}
-use Rattle.scr_plan.specs.Order.{has_beacon, core_number}
-use Rattle.scr_plan.specs.Overtaken.{comes_before}
+use Rattle.scr_plan.specs.Order.{has_beacon}
 use Rattle.scr_plan.proofs.link.Link.is_overtaken.Goals as goal
 
 pub returns-then-last-n-clause-overtaken : goal.returns-then-last-n-clause-overtaken

@@ -1,4 +1,4 @@
-use Rattle.std.proofs.Common.{◌≡◌, ◌≤◌, ◌<◌, ℕ, false}
+use Rattle.std.proofs.Common.{◌≡◌, ◌<◌, ℕ, false}
 use Rattle.scr_plan.specs.Order.{core_number}
 use Rattle.scr_plan.specs.Overtaken.{comes_before}
 use Rattle.scr_plan.proofs.link.Link.is_overtaken.Given as goal
