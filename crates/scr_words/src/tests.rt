@@ -122,8 +122,8 @@ fn takes_each_program_operand(rt: HostRuntime) -> Result<(), Fail> {
 #[test]
 fn takes_a_chain(rt: HostRuntime) -> Result<(), Fail> {
     let line = "run second=heavy threshold=3 program=chain bytes=60 first=ddos flows=9";
-    let settings = read(rt.alloc(), line).map_err(|_| "refused")?;
-    let ProgramSettings::Chain { first, second } = settings.program else {
+    let program = read(rt.alloc(), line).map_err(|_| "refused")?.program;
+    let ProgramSettings::Chain { first, second } = program else {
         return Err(Fail::from("another program"));
     };
     let (threshold, bytes, flows) = (3, 60, 9);
@@ -136,8 +136,8 @@ fn takes_a_chain(rt: HostRuntime) -> Result<(), Fail> {
 #[test]
 fn takes_a_table(rt: HostRuntime) -> Result<(), Fail> {
     let line = "load table=0:u>1/D,0:*>0/D,1:*>1/P flows=7 program=table";
-    let settings = read(rt.alloc(), line).map_err(|_| "refused")?;
-    let ProgramSettings::Table(settings) = settings.program else {
+    let program = read(rt.alloc(), line).map_err(|_| "refused")?.program;
+    let ProgramSettings::Table(settings) = program else {
         return Err(Fail::from("another program"));
     };
     assert_eq!(rt; settings.flows, 7);
