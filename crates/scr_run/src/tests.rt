@@ -3,7 +3,7 @@
 use crate::{Shape, Status, names_of, plain_run, run_engine, scr_main};
 use scr_base::{OutOfMemory, SureSink, SureSource, Word};
 use scr_ddos::{Ddos, DdosSettings};
-use scr_plan::Drops;
+use scr_plan::{Drops, Link};
 use std::alloc::Global;
 use std::test::Fail;
 
@@ -86,6 +86,15 @@ fn reports_what_is_asked_for(rt: HostRuntime) -> Result<(), Fail> {
              verdict PASS 1\nverdict DROP 2\nverdict OTHER 0\n",
         ),
         (
+            "run program=ddos threshold=2 cores=2 history=0 repeat=1-4 delay=1:3",
+            "2 PASS\n3 PASS\n4 DROP\n\
+             frames 4 delivered 3 kept 3\n\
+             core 0 delivered 1 carried 1 recovered 2 skipped 1\n\
+             core 1 delivered 2 carried 2 recovered 1 skipped 1\n\
+             flows 1\n\
+             verdict PASS 2\nverdict DROP 1\nverdict OTHER 0\n",
+        ),
+        (
             "plain program=knock ports=53,53,53",
             "1 DROP\n2 DROP\n3 DROP\n4 PASS\n\
              frames 4 delivered 4 kept 4\n\
@@ -155,7 +164,7 @@ fn a_program_runs_by_itself(rt: HostRuntime) -> Result<(), Fail> {
     let shape = Shape {
         cores: 1,
         history: 0,
-        drops: Drops::none(alloc),
+        link: Link::dropping(alloc, Drops::none(alloc)),
         ring: 1,
         threads: false,
     };

@@ -1,5 +1,5 @@
 -- Words without a fault choose some settings, and only these.
-use Rattle.std.proofs.Common.{◌≡◌, ◌⊎◌, inl, inr, ℕ, ◌≤◌, List, Bool, true, false, cond, not, ◌&&◌, leb, codes, bytes_eq, Option, Some, None, Ok, Err, refl, sym, ap, ◌∙◌, subst, arith}
+use Rattle.std.proofs.Common.{◌≡◌, ◌⊎◌, inl, inr, ℕ, ◌≤◌, List, [], Bool, true, false, cond, not, ◌&&◌, leb, codes, bytes_eq, Option, Some, None, Ok, Err, refl, sym, ap, ◌∙◌, subst, arith}
 use Rattle.std.specs.List.{before_first, after_first}
 use Rattle.std.proofs.lemmas.Bool.{and_parts}
 use Rattle.std.proofs.lemmas.Bool.Decides.{nat_tests}
@@ -8,6 +8,7 @@ use Rattle.std.proofs.Math.Path.{PathP, to_path_p}
 use mathlib.Core.Bool.{Bool-set}
 use Rattle.scr_base.specs.Numbers.{is_number, number_of}
 use Rattle.scr_plan.proofs.OneReading.{Spells-same}
+use Rattle.scr_plan.specs.Link.{Link}
 use Rattle.scr_program.specs.declared.setting.SettingError.TheVariants.{Value, Range}
 use Rattle.scr_knock.specs.Ports.{is_comma, is_port, ports_of}
 use Rattle.scr_knock.specs.declared.settings.KnockSettings.{KnockSettings}
@@ -34,7 +35,7 @@ use Rattle.scr_words.specs.Operands.{table}
 use Rattle.scr_words.specs.WordParts.{given, program_in, first_in, second_in}
 use Rattle.scr_words.specs.WordFaults.{setting_fault, lacks_operand}
 use Rattle.scr_words.specs.WordTests.{HaveFaultlessValues}
-use Rattle.scr_words.specs.GivenSettings.{value_for, number_for, history_for, HasPorts, HasNumbers, name_of, HasProgram, HasShape, AreChosen}
+use Rattle.scr_words.specs.GivenSettings.{value_for, number_for, history_for, HasPorts, HasNumbers, name_of, HasProgram, HasLink, HasShape, AreChosen}
 use Rattle.scr_words.proofs.GivenValues.{value_for-passes}
 use Rattle.scr_words.proofs.FaultlessWords.{lacks-program, lacks-table, lacks-first, lacks-second}
 use Rattle.scr_words.proofs.TextFaults.{drop_list_fault-empty, table-some}
@@ -264,7 +265,7 @@ module _ (operands : List (List ℕ)) (values : HaveFaultlessValues operands) wh
       let shape : Shape = record {
         cores = number_for operand.Cores operands;
         history = history_for operands;
-        drops = ranges;
+        link = record { drops = ranges; repeats = []; delays = []; missing = [] };
         ring = number_for operand.Ring operands;
         threads = bytes_eq (value_for operand.Threads operands) (codes "yes");
         some_cores = cores.0;
@@ -273,7 +274,7 @@ module _ (operands : List (List ℕ)) (values : HaveFaultlessValues operands) wh
         some_ring = ring.0;
         short_ring = ring.1;
       } in
-      (shape, record { cores = refl; history = refl; drops = spells; ring = refl; threads = refl })
+      (shape, record { cores = refl; history = refl; link = record { drops = spells; repeats = refl; delays = refl; missing = refl }; ring = refl; threads = refl })
 
   -- the words choose some program, or a required operand is absent
   abbrev SomeProgram : Type 0
@@ -333,11 +334,11 @@ module _ (operands : List (List ℕ)) (values : HaveFaultlessValues operands) wh
       ]
 
 -- two shapes with the same numbers are the same
-Shape-same : (a b : Shape) → a.cores ≡ b.cores → a.history ≡ b.history → a.drops ≡ b.drops → a.ring ≡ b.ring → a.threads ≡ b.threads → a ≡ b
-Shape-same a b cores history drops ring threads = λ i. record {
+Shape-same : (a b : Shape) → a.cores ≡ b.cores → a.history ≡ b.history → a.link ≡ b.link → a.ring ≡ b.ring → a.threads ≡ b.threads → a ≡ b
+Shape-same a b cores history link ring threads = λ i. record {
   cores = cores i;
   history = history i;
-  drops = drops i;
+  link = link i;
   ring = ring i;
   threads = threads i;
   some_cores = at_least cores a.some_cores b.some_cores i;
@@ -347,10 +348,18 @@ Shape-same a b cores history drops ring threads = λ i. record {
   short_ring = at_most ring a.short_ring b.short_ring i;
 }
 
+HasLink-same : (operands : List (List ℕ)) (a b : Link) → HasLink operands a → HasLink operands b → a ≡ b
+HasLink-same operands a b of_a of_b =
+    let drops = Spells-same (value_for operand.Drop operands) a.drops b.drops of_a.drops of_b.drops in
+    let repeats = of_a.repeats ∙ sym of_b.repeats in
+    let delays = of_a.delays ∙ sym of_b.delays in
+    let missing = of_a.missing ∙ sym of_b.missing in
+    λ i. record { drops = drops i; repeats = repeats i; delays = delays i; missing = missing i }
+
 HasShape-same : (operands : List (List ℕ)) (a b : Shape) → HasShape operands a → HasShape operands b → a ≡ b
 HasShape-same operands a b of_a of_b =
     Shape-same a b (of_a.cores ∙ sym of_b.cores) (of_a.history ∙ sym of_b.history)
-    (Spells-same (value_for operand.Drop operands) a.drops b.drops of_a.drops of_b.drops) (of_a.ring ∙ sym of_b.ring)
+    (HasLink-same operands a.link b.link of_a.link of_b.link) (of_a.ring ∙ sym of_b.ring)
     (of_a.threads ∙ sym of_b.threads)
 
 RunSettings-same : (a b : RunSettings) → a.command ≡ b.command → a.program ≡ b.program → a.shape ≡ b.shape → a.start ≡ b.start

@@ -3,6 +3,7 @@ use Rattle.std.specs.Prelude.{◌≡◌, ℕ, ◌-◌, List, [], ◌∷◌, Some
 use Rattle.std.specs.Option.{option_map_or}
 use Rattle.std.specs.Str.{bytes_eq}
 use Rattle.scr_base.specs.Numbers.{number_of}
+use Rattle.scr_plan.specs.Link.{Link}
 use Rattle.scr_plan.specs.Spelling.{Spells}
 use Rattle.scr_knock.specs.Ports.{ports_in}
 use Rattle.scr_tables.specs.Spelling as tables
@@ -74,11 +75,18 @@ HasProgram operands (Table settings) = (program_in operands ≡ Some program.Tab
     × tables.Spells (value_for operand.Table operands) settings.table
     × (settings.flows ≡ number_for operand.Flows operands)
 
+-- what lies between the sequencer and the cores
+pub record HasLink (operands : List (List ℕ)) (link : Link) : Type 0 where
+  pub drops : Spells (value_for operand.Drop operands) link.drops
+  pub repeats : link.repeats ≡ []
+  pub delays : link.delays ≡ []
+  pub missing : link.missing ≡ []
+
 -- how frames go to cores
 pub record HasShape (operands : List (List ℕ)) (shape : Shape) : Type 0 where
   pub cores : shape.cores ≡ number_for operand.Cores operands
   pub history : shape.history ≡ history_for operands
-  pub drops : Spells (value_for operand.Drop operands) shape.drops
+  pub link : HasLink operands shape.link
   pub ring : shape.ring ≡ number_for operand.Ring operands
   pub threads : shape.threads ≡ bytes_eq (value_for operand.Threads operands) (codes "yes")
 

@@ -5,7 +5,7 @@ ghost use Rattle.scr_words.specs.Operands.{table, is_numeric, IsWithin};
 ghost use Rattle.scr_words.specs.WordParts.{program_in, chosen};
 ghost use Rattle.scr_words.specs.WordFaults.{value_fault};
 ghost use Rattle.scr_words.specs.WordTests.{HaveFaultlessValues, Chooses};
-ghost use Rattle.scr_words.specs.GivenSettings.{value_for, number_for, history_for, HasPorts, HasNumbers, name_of, HasProgram, HasShape, AreChosen};
+ghost use Rattle.scr_words.specs.GivenSettings.{value_for, number_for, history_for, HasPorts, HasNumbers, name_of, HasProgram, HasLink, HasShape, AreChosen};
 
 use crate::operand::{Form, Operand};
 use crate::parts::{chosen, given};
@@ -17,7 +17,7 @@ use scr_conn::ConnSettings;
 use scr_ddos::DdosSettings;
 use scr_heavy::HeavySettings;
 use scr_knock::KnockSettings;
-use scr_plan::{DropError, Drops};
+use scr_plan::{DropError, Drops, Link};
 use scr_tables::{Table, TableError, TableSettings};
 use std::alloc::Global;
 
@@ -135,7 +135,7 @@ fn shape(alloc: Global, operands: &[Word]) -> Result<Shape, OutOfMemory>
     Ok(Shape {
         cores,
         history: history(cores, operands),
-        drops: drop_list(alloc, operands)?,
+        link: link(alloc, operands)?,
         ring: number(Operand::Ring, operands) as u32,
         threads: value(Operand::Threads, operands) == b"yes".as_slice(),
     })
@@ -153,6 +153,14 @@ fn history(cores: u32, operands: &[Word]) -> u32
         Some(text) => spelled(Operand::History, text) as u32,
         None => cores - 1,
     }
+}
+
+fn link(alloc: Global, operands: &[Word]) -> Result<Link, OutOfMemory>
+    requires values { HaveFaultlessValues operands.now }
+    ensures { IfOk result (HasLink operands.now) }
+{
+    let drops = drop_list(alloc, operands)?;
+    Ok(Link::dropping(alloc, drops))
 }
 
 fn drop_list(alloc: Global, operands: &[Word]) -> Result<Drops, OutOfMemory>

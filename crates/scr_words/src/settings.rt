@@ -6,7 +6,7 @@ use scr_conn::ConnSettings;
 use scr_ddos::DdosSettings;
 use scr_heavy::HeavySettings;
 use scr_knock::KnockSettings;
-use scr_plan::Drops;
+use scr_plan::Link;
 use scr_tables::TableSettings;
 
 /// What the program is to do.
@@ -57,8 +57,8 @@ pub struct Shape {
     pub cores: u32,
     /// How many packets before its own a frame carries, at most 64.
     pub history: u32,
-    /// The frames that aren't delivered.
-    pub drops: Drops,
+    /// What lies between the sequencer and the cores.
+    pub link: Link,
     /// How many messages wait for a core at most, from 1 to 4,096.
     pub ring: u32,
     /// Whether each core has a thread of its own.

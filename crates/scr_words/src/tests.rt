@@ -10,6 +10,7 @@ use scr_conn::ConnSettings;
 use scr_ddos::DdosSettings;
 use scr_heavy::HeavySettings;
 use scr_knock::KnockSettings;
+use scr_plan::Fate;
 use scr_tables::{Decision, Pattern, Rule};
 use std::alloc::Global;
 use std::test::Fail;
@@ -40,7 +41,7 @@ fn has_a_default_for_each_operand(rt: HostRuntime) -> Result<(), Fail> {
     assert_eq!(rt; (program.threshold, program.flows), (1000, 4096));
     assert_eq!(rt; (settings.shape.cores, settings.shape.history), (1, 0));
     assert_eq!(rt; (settings.shape.ring, settings.shape.threads), (1024, true));
-    assert!(rt; !settings.shape.drops.has(1));
+    assert_eq!(rt; settings.shape.link.fate(1), Fate::Once { delay: 0 });
     assert_eq!(rt;
         (settings.start, settings.frames, settings.hosts),
         (0, 1000, 16)
@@ -162,10 +163,11 @@ fn takes_the_shape_of_a_run(rt: HostRuntime) -> Result<(), Fail> {
     let shape = settings.shape;
     assert_eq!(rt; (shape.cores, shape.history, shape.ring), (3, 2, 7));
     assert!(rt; !shape.threads);
-    let drops = shape.drops;
+    let link = shape.link;
+    let on_time = Fate::Once { delay: 0 };
     assert_eq!(rt;
-        (drops.has(3), drops.has(5), drops.has(6), drops.has(9)),
-        (true, true, false, true)
+        (link.fate(3), link.fate(5), link.fate(6), link.fate(9)),
+        (Fate::Lost, Fate::Lost, on_time, Fate::Lost)
     );
     assert_eq!(rt;
         (settings.start, settings.frames, settings.hosts),
@@ -205,10 +207,10 @@ fn takes_an_empty_drop_list_and_numbers_beyond_the_run(rt: HostRuntime) -> Resul
     });
     let settings = read(rt.alloc(), "run threshold=2 program=ddos drop=").map_err(|_| "refused")?;
     assert_eq!(rt; one(settings.program), Some(ddos));
-    assert!(rt; !settings.shape.drops.has(1));
+    assert_eq!(rt; settings.shape.link.fate(1), Fate::Once { delay: 0 });
     let line = "run program=ddos threshold=2 drop=9999";
     let settings = read(rt.alloc(), line).map_err(|_| "refused")?;
     assert_eq!(rt; one(settings.program), Some(ddos));
-    assert!(rt; settings.shape.drops.has(9999));
+    assert_eq!(rt; settings.shape.link.fate(9999), Fate::Lost);
     Ok(())
 }

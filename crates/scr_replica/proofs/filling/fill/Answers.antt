@@ -2,7 +2,7 @@ use Rattle.std.proofs.Common.{◌+◌, ◌<◌, ℕ, List, Some, length, get_or,
 use Rattle.std.specs.Prelude.{slice_get}
 use Rattle.std.proofs.lemmas.Option.{slice_get-get_or}
 use Rattle.scr_base.specs.declared.row.Row.{Row}
-use Rattle.scr_plan.specs.Link.{Link, fate_of}
+use Rattle.scr_plan.specs.Link.{fate_of}
 use Rattle.scr_plan.specs.Plan.{frame_count}
 use Rattle.scr_sequencer.specs.Sequence.{Sequence, begun}
 use Rattle.scr_sequencer.specs.Answers.{Adds, Follows}
@@ -36,8 +36,8 @@ lanes c =
           ∙ slice_get-get_or plan.rows i zero (within c)
           ∙ ap (λ (xs : List Row). Some (get_or xs i zero)) (sym c.rows-row-items.ensures.rows);
       fate_is =
-          c.fate-fate.ensures.answer
-          ∙ ap (λ (link : Link). fate_of link (i + 1)) c.link.ensures.link
+          c.index.ensures
+          ∙ c.in_ok-fates.ensures.fates i c.index.result.now (within c)
           ∙ ap (λ (k : ℕ). fate_of plan.link (k + 1)) (sym was.taken);
     }) in
     (subst (λ (k : ℕ). Adds plan (k + 1) c.in_ok-outgoing.outgoing) was.taken both.0, both.1)

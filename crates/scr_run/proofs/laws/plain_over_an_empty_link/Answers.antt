@@ -5,7 +5,7 @@ use Rattle.scr_plan.specs.Counts.{delivered_count, kept_count}
 use Rattle.scr_replica.specs.OneCore.{verdicts, entries, undivided}
 use Rattle.scr_report.specs.Outcome.{report_of, report_text}
 use Rattle.scr_run.specs.RunReport.{rows_of, shaped}
-use Rattle.scr_run.proofs.laws.plain_without_drops.Goals as goal
+use Rattle.scr_run.proofs.laws.plain_over_an_empty_link.Goals as goal
 
 pub returns : goal.returns
 returns c rules shape records none =
