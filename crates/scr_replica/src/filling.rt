@@ -157,10 +157,10 @@ fn fill(alloc: Global, plan: &RunPlan, cores: &mut [Listener]) -> Result<(), Out
     requires { AllTook plan.now 0 cores.old }
     ensures { OnOk result (AllFinal plan.now cores.new) }
 {
+    let fates = plan.fates(alloc)?;
     let mut sequencer = Sequencer::make(alloc, plan.cores(), plan.history())?;
     for (i, row) in plan.rows().iter().enumerate() {
-        let fate = plan.link().fate(i as u32 + 1);
-        let outgoing = sequencer.next(*row, fate)?;
+        let outgoing = sequencer.next(*row, fates[i])?;
         give_step(alloc, plan, cores, &outgoing)?;
     }
     let mut rest = sequencer.finish();

@@ -6,7 +6,7 @@ use Rattle.scr_plan.specs.Link.{Link, fate_of}
 use Rattle.scr_plan.specs.Plan.{frame_count}
 use Rattle.scr_sequencer.specs.Sequence.{Sequence, begun}
 use Rattle.scr_sequencer.specs.Answers.{Adds, Follows}
-use Rattle.scr_replica.proofs.Begun.{follows-begun}
+use Rattle.scr_sequencer.proofs.Following.{follows_none}
 use Rattle.scr_replica.proofs.filling.fill.Goals as goal
 use Rattle.scr_replica.proofs.filling.fill.Goals.{After-outgoing-in-loop-i-1}
 
@@ -14,7 +14,7 @@ pub loop-i-init : goal.loop-i-init
 loop-i-init c =
     let begins = c.in_ok-sequencer.ensures ∙ (λ i. begun (c.cores.ensures.cores i) (c.history.ensures.history i)) in
     record {
-      follows = follows-begun c.args.plan.now c.in_ok-sequencer.sequencer c.requires.is_plan begins;
+      follows = subst (Follows c.args.plan.now) (sym begins) (follows_none c.args.plan.now c.requires.is_plan);
       taken = ap (λ (s : Sequence). s.taken) begins;
       took = c.requires;
     }
@@ -36,8 +36,8 @@ lanes c =
           ∙ slice_get-get_or plan.rows i zero (within c)
           ∙ ap (λ (xs : List Row). Some (get_or xs i zero)) (sym c.rows-row-items.ensures.rows);
       fate_is =
-          c.fate-fate.ensures.answer
-          ∙ ap (λ (link : Link). fate_of link (i + 1)) c.link.ensures.link
+          c.index.ensures
+          ∙ c.in_ok-fates.ensures.fates i c.index.result.now (within c)
           ∙ ap (λ (k : ℕ). fate_of plan.link (k + 1)) (sym was.taken);
     }) in
     (subst (λ (k : ℕ). Adds plan (k + 1) c.in_ok-outgoing.outgoing) was.taken both.0, both.1)
