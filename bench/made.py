@@ -35,6 +35,12 @@ def knocking(source, host):
     return [mixed(source, port, port) for port in (KNOCKS if host % 2 else WRONG_KNOCKS)]
 
 
+def datagrams(source, host):
+    """UDP alone: the same knocks, right and wrong."""
+    to = [functools.partial(udp, source, ports=(40_000, port)) for port in (KNOCKS if host % 2 else WRONG_KNOCKS)]
+    return [mix_of(datagram, datagram) for datagram in to]
+
+
 def connected(source, _):
     """TCP alone: one connection after the other from the same port, with the server's segments between."""
     def segments(from_opener, flags):

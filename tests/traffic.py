@@ -130,18 +130,49 @@ def capture(seed, frames, different=None):
     return b"".join(parts)
 
 
-def settings(seed, program):
-    """Operands of a program that give mixed verdicts over such captures."""
-    dice = random.Random(seed)
-    choose = lambda *values: dice.choice(values)
-    words = {
+def own_settings(choose, program):
+    """Operands of one of the five programs."""
+    return {
         "ddos": [f"threshold={choose(0, 1, 2, 5, 20)}"],
         "heavy": [f"bytes={choose(1, 29, 56, 100, 500, 2_000)}"],
         "bucket": [f"rate={choose(0, 0, 1, 3, 1_000, 10**9)}", f"burst={choose(1, 1, 2, 2, 5, 10**9)}"],
         "knock": [choose("ports=7000,8000,9000", "ports=80,80,80", "ports=7000,7000,8000", "ports=8000,80,7000", "")],
         "conn": [choose("idle=1", "idle=1000", "idle=1000000", "idle=10000000000000", "", "")],
     }[program]
+
+
+PROGRAMS = ("ddos", "heavy", "bucket", "knock", "conn")
+PAIRS = [(first, second) for first in PROGRAMS[:4] for second in PROGRAMS if first != second]
+# What a call can run.
+RUN = (*PROGRAMS, "chain", "table")
+
+
+def settings(seed, program, pair=None):
+    """Operands of a program that give mixed verdicts over such captures. A chain is one of this pair, or of any."""
+    dice = random.Random(seed)
+    choose = lambda *values: dice.choice(values)
+    if program == "chain":
+        first, second = pair or dice.choice(PAIRS)
+        words = [f"first={first}", f"second={second}", *own_settings(choose, first), *own_settings(choose, second)]
+    else:
+        words = [f"table={table(dice)}"] if program == "table" else own_settings(choose, program)
     return " ".join(filter(None, [*words, choose("", "", "flows=1", "flows=2", "flows=3", "flows=7", "flows=65536")]))
+
+
+def match(dice):
+    return dice.choice(["t", "u", f"d{dice.choice([*PORTS, 53, 80, 0, 40_000])}", f"f{dice.choice([*FLAGS, 2, 16, 255])}"])
+
+
+def table(dice):
+    """A table whose states all can be reached, most of them, with rules that hold of some packets; in any order."""
+    states = dice.sample(range(1, 16), dice.randrange(6)) + [0]
+    rules = [f"{state}:*>{dice.choice(states)}/{dice.choice('PD')}" for state in states]
+    rules += [f"{dice.choice(states)}:{match(dice)}>{dice.choice(states)}/{dice.choice('PD')}"
+              for _ in range(dice.choice([0, 3, 10, 20]))]
+    rules += [f"{dice.randrange(16)}:{match(dice)}>0/D"] * dice.randrange(2)
+    dice.shuffle(rules)
+    # Most of the rules for any packet come last, where they leave the others something.
+    return ",".join(sorted(rules, key=lambda rule: "*" in rule and dice.random() < 0.8))
 
 
 def drop_list(seed, frames):

@@ -7,9 +7,7 @@ from model import generator, plan
 from model.reading import NANOSECONDS, header as header_of, records
 from model.words import drop_list as drops_of
 from running import difference, outcome, same, shown
-from traffic import capture, drop_list, settings
-
-PROGRAMS = ("ddos", "heavy", "bucket", "knock", "conn")
+from traffic import PROGRAMS, RUN, capture, drop_list, settings
 
 
 def without_cores(found):
@@ -19,7 +17,7 @@ def without_cores(found):
 
 def like_plain(program):
     """Without drops a run gives the verdicts, the flows and the counts of `plain`, on any cores and with any history."""
-    for seed, chosen in enumerate(PROGRAMS * 3, 100):
+    for seed, chosen in enumerate(RUN * 2, 100):
         data, own = capture(seed, 400), settings(seed, chosen)
         wanted = outcome(program, f"plain program={chosen} {own}".split(), data)
         for more in ("cores=1", "cores=2", "cores=3 history=0", "cores=5 history=64 ring=1", "cores=16 threads=no"):
@@ -29,7 +27,7 @@ def like_plain(program):
 
 def whatever_the_schedule(program):
     """Rings and threads change nothing; nor does a history where nothing is dropped, but in the core lines."""
-    for seed, chosen in enumerate(PROGRAMS * 2, 200):
+    for seed, chosen in enumerate(PROGRAMS + RUN, 200):
         data, call = capture(seed, 700), f"run program={chosen} {settings(seed, chosen)} cores={2 + seed % 15}"
         for drop in ("", " drop=" + drop_list(seed, 700), f" history={seed % 3} drop=2-700/3"):
             calls = [f"{call}{drop}{more}" for more in ("", " threads=no", " threads=yes", " ring=1", " ring=1 threads=no",
@@ -39,7 +37,7 @@ def whatever_the_schedule(program):
 
 def plain_over_the_kept(program):
     """With drops, the verdicts are those of `plain` over a capture of just the packets that some delivered frame carries."""
-    for seed, chosen in enumerate(PROGRAMS * 3, 300):
+    for seed, chosen in enumerate(RUN * 2, 300):
         frames, cores, history = 250, 1 + seed % 16, (0, 1, 3)[seed % 3]
         drop, own = drop_list(seed, frames), settings(seed, chosen)
         data = capture(seed, frames)
@@ -68,7 +66,7 @@ def again(found, order, unit):
 
 def load_as_run(program):
     """`load` is a run over the capture that it makes, without the verdict lines."""
-    for seed, chosen in enumerate(PROGRAMS * 2, 400):
+    for seed, chosen in enumerate(RUN * 2, 400):
         start, frames, hosts = seed * 7_919, 900 + seed, 1 + seed % 40
         more = f"program={chosen} {settings(seed, chosen)} cores={1 + seed % 16} history={seed % 9}"
         more += f" drop={drop_list(seed, frames)}"

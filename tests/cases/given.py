@@ -3,8 +3,10 @@ import os
 
 from running import compare, difference, outcome, shown
 
-from .agreement import PROGRAMS, without_cores
+from .agreement import without_cores
+from .tables import LOCK_OUT
 
+# Of each program a call may run: what stands behind it.
 CALLS = {
     "ddos": ("threshold=3", "cores=2 history=0 drop=2-1000000/2", "cores=16 flows=5 threshold=1",
              "cores=3 history=64 drop=1-100,200-900/7"),
@@ -13,6 +15,8 @@ CALLS = {
                "cores=16 history=2 drop=4-1000000/2"),
     "knock": ("", "cores=3 drop=1,2,3", "cores=2 history=0 ports=80,443,22 drop=5-1000000/2", "cores=7 flows=2"),
     "conn": ("", "cores=3 drop=1-1000000/4", "cores=8 idle=1000 history=0 drop=2-1000000/3", "cores=2 history=64 flows=4"),
+    "chain first=bucket second=conn": ("", "cores=3 rate=5 burst=2", "cores=2 history=0 drop=3-1000000/4", "cores=5 flows=3"),
+    f"table table={LOCK_OUT}": ("", "cores=3", "cores=4 history=0 drop=2-1000000/3", "cores=2 flows=2 drop=5-1000000/9"),
 }
 
 
@@ -24,7 +28,7 @@ def given_captures(program):
             continue
         with open(f"{folder}/{name}", "rb") as file:
             data = file.read()
-        for chosen in PROGRAMS:
+        for chosen in CALLS:
             for more in CALLS[chosen]:
                 yield f"{name}: {chosen} {more}", compare(program, f"run program={chosen} {more}".split(), data)
             yield f"{name}: plain {chosen}", compare(program, f"plain program={chosen}", data)

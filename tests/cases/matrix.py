@@ -2,9 +2,8 @@
 import itertools
 
 from running import compare
-from traffic import capture, drop_list, settings
+from traffic import PROGRAMS, RUN, capture, drop_list, settings
 
-PROGRAMS = ("ddos", "heavy", "bucket", "knock", "conn")
 CORES, HISTORIES = (1, 2, 3, 16), (0, 1, 2, 64)
 DROPS = ("none", "few", "random")
 RINGS = ("", "ring=1", "ring=2", "ring=4096")
@@ -27,7 +26,7 @@ def all_cores(program):
     for cores in range(1, 17):
         for seed, more in ((1_000 + cores, []), (2_000 + cores, ["drop=" + drop_list(cores, 300)]),
                            (3_000 + cores, [f"history={cores * 4}", f"drop=3-300/{cores + 1}"])):
-            chosen = PROGRAMS[seed % 5]
+            chosen = RUN[seed % 7]
             words = ["run", f"program={chosen}", *settings(seed, chosen).split(), f"cores={cores}", *more]
             yield f"seed {seed}", compare(program, words, capture(seed, 300))
 
@@ -37,7 +36,7 @@ def turns_of_256(program):
     seed = 4_000
     for frames in (255, 256, 257, 258, 511, 512, 513, 769):
         for drop in ("", f"1-{frames}", "256", "257", "250-262", f"{frames}", f"{frames - 1}-{frames}", f"2-{frames}/2"):
-            chosen, cores, history = PROGRAMS[seed % 5], 1 + seed % 4, (0, 0, 1, 5)[seed % 4]
+            chosen, cores, history = RUN[seed % 7], 1 + seed % 4, (0, 0, 1, 5)[seed % 4]
             words = f"run program={chosen} {settings(seed, chosen)} cores={cores} history={history} drop={drop}"
             words += f" ring={1 + seed % 3}"
             yield f"seed {seed}", compare(program, words, capture(seed, frames, 40))
@@ -47,14 +46,14 @@ def turns_of_256(program):
 def plain_runs(program):
     """Short captures, and one of no frames."""
     for seed in range(5_000, 5_060):
-        chosen = PROGRAMS[seed % 5]
+        chosen = RUN[seed % 7]
         yield f"seed {seed}", compare(program, ["plain", f"program={chosen}", *settings(seed, chosen).split()],
                                       capture(seed, seed % 200))
 
 
 def long_runs(program):
     """Captures of some thousands of frames, with drops past every limit of a lane, a history and a ring."""
-    for seed, chosen in enumerate(PROGRAMS, 6_000):
+    for seed, chosen in enumerate(RUN, 6_000):
         data = capture(seed, 5_000, 400)
         for more in ("cores=1", "cores=2 history=0 drop=2-5000/2", "cores=16 drop=1-5000/5",
                      "cores=5 history=64 drop=100-1400,1500-4000/3",
@@ -71,7 +70,7 @@ def load_runs(program):
     """Captures that the program makes."""
     for seed, (start, frames, hosts) in enumerate(itertools.product((0, 1, 2**64 - 1, 12_345_678_901_234_567_890),
                                                                     (1, 2, 257, 1_200), (1, 16, 65_536))):
-        chosen = PROGRAMS[seed % 5]
+        chosen = RUN[seed % 7]
         words = f"load program={chosen} start={start} frames={frames} hosts={hosts} cores={1 + seed % 16} history={seed * 7 % 65}"
         more = settings(seed, chosen).split() + (["drop=" + drop_list(seed, frames)] if seed % 3 else [])
         yield f"seed {seed}", compare(program, [*words.split(), *more], b"")

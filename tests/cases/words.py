@@ -5,6 +5,7 @@ import random
 from captures import capture, header
 from model import Outcome, answer, fault
 from running import compare, difference, ended, file_of, outcome, start
+from traffic import PAIRS
 
 from .known import FOUR, FOUR_REPORT, SOURCE
 
@@ -12,7 +13,8 @@ COMMANDS = ("run", "plain", "load")
 OWN = {"ddos": ["threshold"], "heavy": ["bytes"], "bucket": ["rate", "burst"], "knock": ["ports"], "conn": ["idle"]}
 OF_CORES, OF_LOAD = ["cores", "history", "drop", "ring", "threads"], ["start", "frames", "hosts"]
 SAMPLE = {"flows": "7", "cores": "2", "history": "1", "drop": "3", "ring": "9", "threads": "no", "start": "1", "frames": "3",
-          "hosts": "2", "threshold": "1", "bytes": "1", "rate": "1", "burst": "1", "ports": "1,2,3", "idle": "1"}
+          "hosts": "2", "threshold": "1", "bytes": "1", "rate": "1", "burst": "1", "ports": "1,2,3", "idle": "1",
+          "first": "ddos", "second": "heavy", "table": "0:*>0/P"}
 NINES = "9" * 40
 
 # Lines of words (one space between two), and the line that refuses them.
@@ -43,8 +45,9 @@ run program=ddo                             | word 2: Program
 run program=ddos=                           | word 2: Program
 run program==ddos                           | word 2: Program
 run program=ddos,heavy                      | word 2: Program
-run program=chain                           | word 2: Program
-run program=table                           | word 2: Program
+run program=chains                          | word 2: Program
+run program=chain,table                     | word 2: Program
+run program=Table                           | word 2: Program
 plain program=dns                           | word 2: Program
 load program=run                            | word 2: Program
 run threshold=1 program=dns                 | word 3: Program
@@ -74,9 +77,84 @@ run programs=ddos                           | word 2: UnknownName
 run prog=ddos                               | word 2: UnknownName
 run program=ddos delay=1:1                  | word 3: UnknownName
 run program=ddos repeat=1                   | word 3: UnknownName
-run program=ddos first=ddos                 | word 3: UnknownName
+run program=ddos second_=ddos               | word 3: UnknownName
+run program=ddos First=ddos                 | word 3: UnknownName
+run program=table tables=0:*>0/P            | word 3: UnknownName
 run program=ddos core=2                     | word 3: UnknownName
 run program=ddos run=1                      | word 3: UnknownName
+run program=chain                           | word 3: Missing
+run program=chain first=ddos                | word 4: Missing
+plain program=chain second=ddos             | word 4: Missing
+load program=chain first=ddos frames=1      | word 5: Missing
+run first=ddos second=heavy                 | word 4: Missing
+run first=ddos second=heavy table=0:*>0/P   | word 5: Missing
+run program=table                           | word 3: Missing
+load program=table flows=2                  | word 4: Missing
+run table=0:*>0/P                           | word 3: Missing
+run second=conn                             | word 3: Missing
+run first=                                  | word 2: Program
+run first=dns                               | word 2: Program
+run first=conn                              | word 2: Program
+run first=chain                             | word 2: Program
+run first=table                             | word 2: Program
+run second=                                 | word 2: Program
+run second=chain                            | word 2: Program
+run second=table                            | word 2: Program
+run second=ddos,heavy                       | word 2: Program
+run program=chain first=conn second=ddos    | word 3: Program
+run program=chain first=ddos second=Conn    | word 4: Program
+run program=chain second=conn first=conn    | word 4: Program
+run first=conn second=conn                  | word 2: Program
+run second=conn first=conn                  | word 3: Program
+run program=chain first=ddos second=ddos    | word 4: Same
+run program=chain second=knock first=knock  | word 4: Same
+run first=heavy program=chain second=heavy  | word 4: Same
+run first=ddos second=ddos                  | word 3: Same
+run second=ddos first=ddos                  | word 3: Same
+run first=ddos second=ddos program=dns      | word 3: Same
+run first=ddos second=ddos program=ddos     | word 2: NotHere
+run first=ddos first=ddos second=ddos       | word 3: Twice
+run first=ddos second=heavy first=heavy     | word 4: Twice
+run first=ddos second=heavy second=ddos     | word 4: Twice
+run first=ddos second=ddos second=heavy     | word 3: Same
+run table=0:*>0/P table=x                   | word 3: Twice
+run table=                                  | word 2: Table Empty at 0
+run table=x                                 | word 2: Table Form at 0
+run table=0:*>0/P,16:*>0/P                  | word 2: Table Range at 8
+run table=0:d7>1/P program=table            | word 2: Table NoAny at 0
+run table=0:*>7/P program=dns               | word 2: Table NoAny at 7
+run table==0:*>0/P                          | word 2: Table Form at 0
+run table=0:*>0/P=                          | word 2: Table Form at 0
+run table=x program=ddos                    | word 2: NotHere
+run table=x program=chain                   | word 2: NotHere
+run program=ddos first=ddos                 | word 3: NotHere
+run program=ddos second=dns                 | word 3: NotHere
+run program=ddos table=0:*>0/P              | word 3: NotHere
+run program=chain table=0:*>0/P             | word 3: NotHere
+run program=chain first=ddos second=heavy table=x | word 5: NotHere
+run program=chain first=dns table=x         | word 3: Program
+run program=table first=ddos                | word 3: NotHere
+run program=table second=ddos               | word 3: NotHere
+run program=table threshold=1               | word 3: NotHere
+run program=table table=0:*>0/P idle=1      | word 4: NotHere
+run program=chain first=ddos second=heavy rate=1 | word 5: NotHere
+run rate=1 program=chain first=ddos second=heavy | word 2: NotHere
+run program=chain idle=x first=ddos second=heavy | word 3: NotHere
+run program=chain idle=x first=ddos second=conn  | word 3: Value
+run program=chain first=ddos rate=1         | word 5: Missing
+run program=chain second=ddos ports=1,2     | word 4: Value
+run program=chain rate=1 idle=1 ports=1,2,3 bytes=1 threshold=1 burst=1 | word 9: Missing
+run rate=1 program=chain first=conn second=ddos  | word 4: Program
+run rate=1 program=chain first=ddos second=dns   | word 5: Program
+run rate=1 program=chain first=dns second=dns    | word 4: Program
+run rate=1 program=chain first=ddos second=ddos  | word 2: NotHere
+run rate=1 program=chain first=ddos second=heavy first=bucket | word 2: NotHere
+run rate=1 program=chain first=bucket second=heavy first=ddos | word 6: Twice
+run program=chain program=ddos first=ddos   | word 3: Twice
+plain program=chain first=ddos second=heavy cores=2 | word 5: NotHere
+plain program=table table=0:*>0/P drop=     | word 4: NotHere
+run program=chain first=ddos second=heavy frames=1 | word 5: NotHere
+run program=chain first=ddos second=heavy threshold=4294967296 | word 5: Range
 run program=ddos rate=5                     | word 3: NotHere
 run rate=5 program=ddos                     | word 2: NotHere
 run rate=5 program=ddos program=bucket      | word 2: NotHere
@@ -176,6 +254,15 @@ def foreign_operands(program):
             words = f"{command} program=ddos {name}={SAMPLE[name]}"
             known = None if taken else fault(1, "word 3: NotHere")
             yield f"{command} with {name}", compare(program, words, FOUR, known)
+    for number, (first, second) in enumerate(PAIRS):
+        taken = [*OWN[first], *OWN[second]]
+        others = [name for names in OWN.values() for name in names if name not in taken]
+        chained = f"{COMMANDS[number % 3]} program=chain first={first} second={second}"
+        words = f"{chained} {' '.join(f'{name}={SAMPLE[name]}' for name in taken)}"
+        yield f"{first}+{second} with its own", compare(program, words, FOUR)
+        foreign = others[number % len(others)]
+        yield f"{first}+{second} with {foreign}", compare(program, f"{chained} {foreign}={SAMPLE[foreign]}", FOUR,
+                                                         fault(1, "word 5: NotHere"))
     for number, (chosen, own) in enumerate(itertools.product(OWN, [name for names in OWN.values() for name in names])):
         words = f"{COMMANDS[number % 3]} program={chosen} {own}={SAMPLE[own]}"
         taken = own in OWN[chosen]
@@ -184,8 +271,8 @@ def foreign_operands(program):
 
 # One fault of each kind that a word may have under `run program=ddos`, with its cause.
 FAULTS = [("-v", "NoEquals"), ("", "NoEquals"), ("color=red", "UnknownName"), ("=", "UnknownName"), ("rate=5", "NotHere"),
-          ("frames=5", "NotHere"), ("idle=x", "NotHere"), ("program=ddos", "Twice"), ("program=dns", "Twice"),
-          ("threshold=", "Value"),
+          ("frames=5", "NotHere"), ("idle=x", "NotHere"), ("first=heavy", "NotHere"), ("table=x", "NotHere"),
+          ("program=ddos", "Twice"), ("program=dns", "Twice"), ("threshold=", "Value"),
           ("flows=x", "Value"), ("threads=maybe", "Value"), ("cores=17", "Range"), ("ring=0", "Range"), ("history=65", "Range"),
           ("drop=1,,2", "Drop Empty at 2"), ("drop=2x", "Drop Digit at 0"), ("drop=1,0", "Drop Zero at 2"),
           ("drop=1000000001", "Drop TooLarge at 0"), ("drop=7-3", "Drop Range at 0")]
@@ -272,24 +359,36 @@ NO_NAMES = ["", "Program", "programs", "core", "delay", "x" * 300]
 NUMBERS = ["0", "1", "2", "7", "16", "17", "64", "65", "007", "0" * 30 + "3", "4096", "4097", "65536", "65537", NINES]
 TEXTS = ["", "x", "-1", "1x", " 1", "1=1", "yes", "no", "YES", "1,2,3", "0,1,2", "1,2", "0,x,1", "80,443,65536"]
 LISTS = ["1", "1,2", "2-4", "1-9/3", "1,,2", "0", "3-1", "1-", "1/2", "00002-4/01", "1000000000", "1000000001", "2,0,x"]
+NAMES = [*OWN, "dns", "chain", "table", "", "ddos "]
+TABLES = ["0:*>0/P", "0:t>3/D,0:*>0/P,3:*>3/D", "0:u>1/P,0:*>0/D,1:*>0/P", "", "x", "0:*>0/P,", "16:*>0/P", "0:t>0/P",
+          "0:*>4/P"]
+VALUES = {"drop": LISTS, "program": NAMES, "first": NAMES, "second": NAMES, "table": TABLES}
 RANDOM_LISTS = 600
 
 
 def any_word(draw, names):
     """A word with one of these names and some value."""
     name = draw.choice(names)
-    if name == "program":
-        return f"program={draw.choice([*OWN, 'dns', 'chain', '', 'ddos '])}"
-    lists = LISTS if name == "drop" else NUMBERS
-    return f"{name}={draw.choice(TEXTS if draw.random() < 0.2 else lists)}"
+    return f"{name}={draw.choice(TEXTS if draw.random() < 0.2 else VALUES.get(name, NUMBERS))}"
+
+
+def of_program(draw, chosen):
+    """Words that a program mostly has, and the names of the operands that are its own beside them."""
+    if chosen == "table":
+        return [f"table={draw.choice(TABLES[:3] * 2 + TABLES)}"], []
+    if chosen != "chain":
+        return [], OWN[chosen]
+    first, second = draw.choice(PAIRS * 5 + [(one, one) for one in OWN])
+    return [f"first={first}", f"second={second}"], [*OWN[first], *OWN[second]]
 
 
 def any_words(draw):
     """A command line whose words fit more often than not."""
-    command, chosen = draw.choice(COMMANDS), draw.choice([*OWN])
-    own = ["flows", *OWN[chosen], *(OF_CORES if command != "plain" else []), *(OF_LOAD if command == "load" else [])]
+    command, chosen = draw.choice(COMMANDS), draw.choice([*OWN, "chain", "chain", "table"])
+    needed, own = of_program(draw, chosen)
+    own = ["flows", *own, *(OF_CORES if command != "plain" else []), *(OF_LOAD if command == "load" else [])]
     names = draw.sample(own, draw.randrange(min(5, len(own))))
-    words = [f"program={chosen}"] * (draw.random() < 0.9)
+    words = [word for word in [f"program={chosen}", *needed] if draw.random() < 0.93]
     words += [f"{name}={SAMPLE[name]}" if draw.random() < 0.7 else any_word(draw, [name]) for name in names]
     if draw.random() < 0.3:
         words.append(draw.choice([any_word(draw, ["program", *SAMPLE]), any_word(draw, NO_NAMES), draw.choice([*SAMPLE, ""])]))

@@ -5,9 +5,8 @@
 import collections
 import functools
 
-from . import generator, plan, report
+from . import folds, generator, plan, report
 from .frames import fields
-from .programs import PROGRAMS, Table
 from .reading import Malformed, records
 from .words import Refused, settings
 
@@ -27,16 +26,6 @@ def packets(capture):
     return [Packet(time, known(frame)) for time, frame in records(capture)]
 
 
-def one_core(program, given, read, kept):
-    """The verdicts of the packets that are kept, by number, and the table behind the last: one core, one packet at a time."""
-    table, verdicts = Table(given["flows"]), {}
-    for number, packet in enumerate(read, 1):
-        if number in kept:
-            looked_at = packet.frame.kind in program.kinds
-            verdicts[number] = program.step(table, packet, given) if looked_at else "OTHER"
-    return verdicts, table
-
-
 def answer(words, capture=b""):
     """The outcome of a call with these words over this standard input."""
     try:
@@ -48,10 +37,10 @@ def answer(words, capture=b""):
         return fault(1, f"word {refused.number}: {refused.cause}")
     except Malformed as malformed:
         return fault(malformed.status, malformed.cause)
-    program = PROGRAMS[given["program"]]
     if command == "plain":
         given = {**given, "cores": 1, "history": 0, "drop": []}
     planned = plan.Plan(len(read), given["cores"], given["history"], given["drop"])
-    verdicts, table = one_core(program, given, read, planned.kept)
-    lines = report.lines(command, program.names, planned, verdicts, len(table.entries))
+    kept = sorted(planned.kept)
+    verdicts, flows = folds.fold(given, [read[number - 1] for number in kept])
+    lines = report.lines(command, folds.names_of(given), planned, dict(zip(kept, verdicts)), flows)
     return Outcome(0, "".join(f"{line}\n" for line in lines).encode(), b"")

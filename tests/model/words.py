@@ -2,6 +2,8 @@
 import re
 import sys
 
+from . import tables
+from .folds import FIRSTS, NAMES, SECONDS
 from .programs import PROGRAMS
 
 COMMANDS = {b"run": "run", b"plain": "plain", b"load": "load"}
@@ -10,7 +12,7 @@ NUMBER = rb"[0-9]+"
 # A number may have any count of digits; some versions of Python read no more than some thousands unless told to.
 if hasattr(sys, "set_int_max_str_digits"):
     sys.set_int_max_str_digits(0)
-# The operands: the commands or the program that take them, and a number's least, greatest and default.
+# The operands: the commands or the program that take them, and a number's least, greatest and default. Some are required.
 OPERANDS = {
     "program": (ALL, None), "flows": (ALL, (1, 65_536, 4_096)),
     "cores": (CORES, (1, 16, 1)), "history": (CORES, (0, 64, None)), "drop": (CORES, None),
@@ -19,7 +21,10 @@ OPERANDS = {
     "threshold": ("ddos", (0, 2**32 - 1, 1_000)), "bytes": ("heavy", (1, 10**12, 1_000_000)),
     "rate": ("bucket", (0, 10**9, 1_000)), "burst": ("bucket", (1, 10**9, 100)),
     "ports": ("knock", (1, 65_535, None)), "idle": ("conn", (1, 10**13, 60_000_000)),
+    "first": ("chain", None), "second": ("chain", None), "table": ("table", None),
 }
+PROGRAM_NAMES = {"program": NAMES, "first": FIRSTS, "second": SECONDS}
+REQUIRED = {"chain": ("program", "first", "second"), "table": ("program", "table")}
 LARGEST_DROP, MOST_PIECES = 10**9, 256
 
 
@@ -48,31 +53,39 @@ def settings(words):
         raise Refused(1, "NoCommand")
     if words[0] not in COMMANDS:
         raise Refused(1, "Command")
-    command, chosen = COMMANDS[words[0]], chosen_program(words)
+    command, programs = COMMANDS[words[0]], taken_programs(words)
     given = {}
     for number, word in enumerate(words[1:], 2):
-        cause = why_not_named(word, command, chosen, given)
+        cause = why_not_named(word, command, programs, given)
         if cause:
             raise Refused(number, cause)
         name, _, text = word.partition(b"=")
-        value, cause = value_of(name.decode(), text)
+        value, cause = value_of(name.decode(), text, given)
         if cause:
             raise Refused(number, cause)
         given[name.decode()] = value
-    if "program" not in given:
+    if not given.keys() >= set(REQUIRED.get(given.get("program"), ["program"])):
         raise Refused(len(words) + 1, "Missing")
-    return command, {**defaults(command, chosen, given.get("cores", 1)), **given}
+    return command, {**defaults(command, programs, given.get("cores", 1)), **given}
 
 
-def chosen_program(words):
-    for word in words:
-        if word.startswith(b"program="):
-            name = word.partition(b"=")[2].decode()
-            return name if name in PROGRAMS else None
-    return None
+def first_value(words, name):
+    """What stands behind the name in the first word that begins with it and an equals sign."""
+    values = (word.partition(b"=")[2].decode() for word in words if word.startswith(name + b"="))
+    return next(values, None)
 
 
-def why_not_named(word, command, chosen, given):
+def taken_programs(words):
+    """The programs whose operands are taken: the chosen one and, with a chain, its two; or all where none is known."""
+    chosen, first, second = (first_value(words, name) for name in (b"program", b"first", b"second"))
+    if chosen not in NAMES:
+        return NAMES
+    if chosen != "chain":
+        return (chosen,)
+    return (chosen, first, second) if first in FIRSTS and second in SECONDS else (chosen, *PROGRAMS)
+
+
+def why_not_named(word, command, programs, given):
     """Why a word's name is refused, or None."""
     if b"=" not in word:
         return "NoEquals"
@@ -80,19 +93,21 @@ def why_not_named(word, command, chosen, given):
     if name not in OPERANDS:
         return "UnknownName"
     takers = OPERANDS[name][0]
-    if command not in takers if isinstance(takers, tuple) else chosen not in (None, takers):
+    if command not in takers if isinstance(takers, tuple) else takers not in programs:
         return "NotHere"
     return "Twice" if name in given else None
 
 
-def value_of(name, text):
-    """The value that an operand's text spells, and why it is refused."""
-    if name == "program":
-        return text.decode(), None if text.decode() in PROGRAMS else "Program"
+def value_of(name, text, given):
+    """The value that an operand's text spells, and why it is refused behind the values that are given."""
+    if name in PROGRAM_NAMES:
+        return program_of(name, text.decode(), given)
     if name == "threads":
         return text, None if text in (b"yes", b"no") else "Value"
     if name == "drop":
         return drop_list(text)
+    if name == "table":
+        return tables.read(text)
     least, greatest, _ = OPERANDS[name][1]
     texts = text.split(b",") if name == "ports" else [text]
     if len(texts) != (3 if name == "ports" else 1) or not all(re.fullmatch(NUMBER, text) for text in texts):
@@ -100,6 +115,14 @@ def value_of(name, text):
     numbers = [int(text) for text in texts]
     cause = None if all(least <= number <= greatest for number in numbers) else "Range"
     return numbers if name == "ports" else numbers[0], cause
+
+
+def program_of(name, text, given):
+    """The name of a program, and why it is refused: the two of a chain differ."""
+    if text not in PROGRAM_NAMES[name]:
+        return None, "Program"
+    is_same = name != "program" and text in (given.get("first"), given.get("second"))
+    return text, "Same" if is_same else None
 
 
 def drop_list(text):
@@ -139,9 +162,9 @@ def why_not_dropped(piece, count):
     return "Pieces" if count > MOST_PIECES else None
 
 
-def defaults(command, chosen, cores):
+def defaults(command, programs, cores):
     """The values of the operands that the words leave out."""
-    taken = {name: numbers for name, (takers, numbers) in OPERANDS.items() if command in takers or chosen == takers}
+    taken = {name: numbers for name, (takers, numbers) in OPERANDS.items() if command in takers or takers in programs}
     values = {name: numbers[2] for name, numbers in taken.items() if numbers}
     if "cores" in taken:
         values.update(history=cores - 1, drop=[], threads=b"yes")

@@ -6,6 +6,7 @@ use Rattle.std.proofs.Common.{arith}
 use Rattle.std.proofs.lemmas.List.{length-append}
 use Rattle.scr_base.specs.declared.row.Row.{Row}
 use Rattle.scr_base.specs.declared.row.Verdict.{Verdict}
+use Rattle.scr_program.specs.Rules.{Rules, ruled_by}
 
 -- a verdict of this name lets its packet pass
 abbrev pub lets_go_on : List ℕ → Bool
@@ -15,32 +16,32 @@ lets_go_on name = bytes_eq name (codes "PASS") || bytes_eq name (codes "OTHER")
 abbrev pub lets_pass : List (List ℕ) → Verdict → Bool
 lets_pass names verdict = lets_go_on (slice_index_or names verdict.0 [])
 
--- The first program, by its names and the verdict of a row after others.
-module _ (names : List (List ℕ)) (first : List Row → Row → Verdict) where
+-- What is stopped has a verdict of its own behind all of the second program, which has these names.
+abbrev pub STOPPED : List (List ℕ) → Verdict
+STOPPED second_names = record { 0 = length second_names }
+
+-- The first program, by its names and the verdict of a row after others. (Of rows, or of what else has a verdict.)
+module _ {X : Type 0} (names : List (List ℕ)) (first : List X → X → Verdict) where
   -- a row that comes after others, where it lets it pass
-  abbrev pub if_passing : (before : List Row) → Row → List Row
+  abbrev pub if_passing : (before : List X) → X → List X
   if_passing before row = if lets_pass names (first before row) then row ∷ [] else []
 
   -- of rows that come after others, those that it lets pass
-  abbrev pub passing_after : (before rows : List Row) → List Row
+  abbrev pub passing_after : (before rows : List X) → List X
   passing_after before [] = []
   passing_after before (row ∷ rows) = if_passing before row ++ passing_after (before ++ row ∷ []) rows
 
   -- of all rows, those that it lets pass
-  abbrev pub passing : List Row → List Row
+  abbrev pub passing : List X → List X
   passing rows = passing_after [] rows
 
-  -- The second program, by its names and its verdict. What is stopped has a verdict of its own behind all others.
-  abbrev pub STOPPED : List (List ℕ) → Verdict
-  STOPPED second_names = record { 0 = length second_names }
-
-  -- the verdict of a row that comes after these rows
-  abbrev pub chained_verdict : (second_names : List (List ℕ)) → (List Row → Row → Verdict) → List Row → Row → Verdict
+  -- the verdict of a row that comes after these rows: that of the second program, where the row passes
+  abbrev pub chained_verdict : (second_names : List (List ℕ)) → (List X → X → Verdict) → List X → X → Verdict
   chained_verdict second_names second rows row =
       if lets_pass names (first rows row) then second (passing rows) row else STOPPED second_names
 
   -- how many entries both programs have after these rows; the sum stops at the last number of 64 bits
-  abbrev pub chained_count : (first_count second_count : List Row → ℕ) → List Row → ℕ
+  abbrev pub chained_count : (first_count second_count : List X → ℕ) → List X → ℕ
   chained_count first_count second_count rows = min (first_count rows + second_count (passing rows)) (2 ^ 64 - 1)
 
 -- the names of the verdicts: those of the second program, and one more
@@ -59,6 +60,14 @@ joined first second = record {
   w6 = bit_or first.w6 second.w6;
 }
 
+-- the rules of a chain, from those of its two programs
+abbrev pub chained : Rules → Rules → Rules
+chained first second = ruled_by
+    (λ frame time. joined (first.row_of frame time) (second.row_of frame time))
+    (chained_verdict first.names first.verdict_after second.names second.verdict_after)
+    (chained_count first.names first.verdict_after first.count_after second.count_after)
+    (chained_names second.names)
+
 -- by the code of each verdict, whether it lets a packet pass
 abbrev pub IsPassTable : List (List ℕ) → List Bool → Type 0
 IsPassTable names passes = (code : ℕ) (d : Bool) → code < length names → slice_index_or passes code d ≡ lets_pass names (record { 0 = code })
@@ -71,7 +80,7 @@ chained-named names first second_names second named rows row =
     let more : length (chained_names second_names) ≡ length second_names + 1 = length-append second_names (codes "STOPPED" ∷ []) in
     let IsNamed : Verdict → Type 0 = λ verdict. verdict.0 < length (chained_names second_names) in
     let below : (second (passing names first rows) row).0 < length second_names = named (passing names first rows) row in
-    elim (lets_pass names (first rows row)) as (λ b. IsNamed (if b then second (passing names first rows) row else STOPPED names first second_names)) [
+    elim (lets_pass names (first rows row)) as (λ b. IsNamed (if b then second (passing names first rows) row else STOPPED second_names)) [
       | true ↦ omega arith
       | false ↦ omega arith
     ]

@@ -1,1 +1,3 @@
+pub mod Arrivals
 pub mod Chains
+pub mod Five

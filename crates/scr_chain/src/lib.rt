@@ -10,18 +10,22 @@
 //!
 //! **What is proved.** That each call of a chain answers by these definitions, for every first program and every second.
 //! So what is proved of runs over any program holds of chains. A step that is refused leaves both states as they were: the
-//! second is prepared before the first takes its step.
+//! second is prepared before the first takes its step. In a chain of any two of the five programs both answer at its rows
+//! as at rows of their own ([`each_answers_as_alone`]), so that a chain is told over frames by what its programs, each by
+//! itself, say of these.
 //!
 //! **What is only tested.** The verdicts and the flows of chains that were followed by hand.
 //!
 //! **Limits.** A program that stands second has at most 254 names ([`Second`]); a chain stands in no chain. It has a table of
-//! flows for each program. That both programs answer at the joint row as at their own is not stated.
+//! flows for each program.
 #![tactic(auto)]
 
 mod chain;
+mod laws;
 mod second;
 #[cfg(test)]
 mod tests;
 
 pub use chain::{Chain, ChainSettings, ChainState};
+pub use laws::{any_frame_fits, each_answers_as_alone};
 pub use second::Second;

@@ -1,6 +1,7 @@
 ghost use Rattle.std.specs.Prelude.{◌≡◌, ◌≤◌, ◌<◌, ◌∷◌, [], map, false, ◌+◌, IfOk, OnOk, OnErr, IfSome, IfNone, MatchOption};
 ghost use Rattle.scr_plan.specs.Plan.{frame_count};
 ghost use Rattle.scr_wire.specs.Spelling.{spelling};
+ghost use Rattle.scr_lane.specs.Ends.{most_waiting};
 ghost use Rattle.scr_feed.specs.Feeding.{Feeding, IsFeeding};
 ghost use Rattle.scr_feed.specs.Left.{NoneToAll};
 ghost use Rattle.scr_feed.specs.Steps.{StepTells};
@@ -82,7 +83,7 @@ impl<'a> Feed<'a> {
         capacity: u32,
     ) -> Result<(Feed<'a>, Vec<ReceiveEnd>), OutOfMemory>
         requires some_room { 1 ≤ capacity }
-        requires little_room { capacity ≤ 1024 }
+        requires little_room { capacity ≤ most_waiting }
         ensures plan { IfOk result (λ made. made.0.plan ≡ plan.now) }
         ensures taken { IfOk result (λ made. made.0.taken ≡ 0) }
         ensures ended { IfOk result (λ made. made.0.ended ≡ false) }

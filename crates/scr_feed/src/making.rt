@@ -1,4 +1,5 @@
 ghost use Rattle.std.specs.Prelude.{◌≡◌, ◌≤◌, IfOk};
+ghost use Rattle.scr_lane.specs.Ends.{most_waiting};
 ghost use Rattle.scr_feed.specs.Made.{AreLanes};
 
 use scr_base::OutOfMemory;
@@ -13,7 +14,7 @@ pub fn make_lanes(
     capacity: u32,
 ) -> Result<(Vec<SendEnd>, Vec<ReceiveEnd>), OutOfMemory>
     requires some_room { 1 ≤ capacity }
-    requires little_room { capacity ≤ 1024 }
+    requires little_room { capacity ≤ most_waiting }
     ensures { IfOk result (λ ends. AreLanes plan.now capacity plan.now.cores ends.0.items ends.1.items) }
 {
     let cores = plan.cores();

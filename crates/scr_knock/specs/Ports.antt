@@ -8,8 +8,11 @@ use Rattle.scr_program.specs.declared.setting.SettingError.TheVariants.{Value, R
 abbrev pub is_comma : ℕ → Bool
 is_comma c = c == 44
 
+abbrev pub greatest_port : ℕ
+greatest_port = 65535
+
 abbrev pub is_port : ℕ → Bool
-is_port number = nat_le 1 number && nat_le number 65535
+is_port number = nat_le 1 number && nat_le number greatest_port
 
 -- The ports of three texts. That one of them is no number comes before that one is outside the range.
 abbrev pub ports_of : List ℕ → List ℕ → List ℕ → Result (ℕ × ℕ × ℕ) SettingError

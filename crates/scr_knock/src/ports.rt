@@ -1,9 +1,11 @@
 ghost use Rattle.std.specs.Prelude.{◌≡◌, ◌≤◌, IfOk};
 ghost use Rattle.std.specs.List.{before_first, after_first, position};
 ghost use Rattle.scr_program.specs.Settings.{setting_within};
-ghost use Rattle.scr_knock.specs.Ports.{is_comma, ports_in};
+ghost use Rattle.scr_knock.specs.Ports.{greatest_port, is_comma, ports_in};
 
 use scr_program::{SettingError, read_setting};
+
+const GREATEST_PORT: u64 = 65_535;
 
 /// The three ports of a text, from 1 to 65,535 and parted by commas.
 pub(crate) fn ports_in(text: &[u8]) -> Result<(u16, u16, u16), SettingError>
@@ -39,8 +41,8 @@ fn first_comma(text: &[u8]) -> Option<usize>
 }
 
 fn port_in(text: &[u8]) -> Result<u16, SettingError>
-    ensures port { result ≡ setting_within text.now 1 65535 }
+    ensures port { result ≡ setting_within text.now 1 greatest_port }
     ensures some { IfOk result (λ port. 1 ≤ port) }
 {
-    Ok(read_setting(text, 1, 65535)? as u16)
+    Ok(read_setting(text, 1, GREATEST_PORT)? as u16)
 }

@@ -16,6 +16,10 @@ pub record End (A : Type 0) : Type 0 where
   pub count : ℕ
   pub looks : List ℕ
 
+-- how many items may be under way at most
+abbrev pub most_waiting : ℕ
+most_waiting = 1024
+
 -- an end that has done nothing yet
 abbrev pub begun : {A : Type 0} → LaneId → A → (capacity : ℕ) → End A
 begun lane about capacity = record { lane = lane; about = about; capacity = capacity; count = 0; looks = [] }

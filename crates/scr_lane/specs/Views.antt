@@ -1,5 +1,6 @@
 -- What the rules of a lane see of its two ends.
-use Rattle.std.specs.Prelude.{ℕ, List}
+use Rattle.std.specs.Prelude.{◌≡◌, ℕ, List}
+use Rattle.atomic_table.specs.Seated.{TableId}
 use Rattle.scr_lane.specs.declared.view.Role.{Role}
 use Rattle.scr_lane.specs.declared.view.Role.TheVariants.{Both}
 use Rattle.scr_lane.specs.declared.view.Hand.{Hand}
@@ -16,3 +17,8 @@ blank nothing = hand Both nothing 0 0
 -- an end at the two words: the number that it has stored, and its looks at the other word
 abbrev pub tally : Role → (stored : ℕ) → (looks : List ℕ) → Tally
 tally role stored looks = record { role = role; stored = stored; looks = looks }
+
+-- an end has sent or taken so many items, as the queue and the two words see it. Its seat is one of the lane's words
+abbrev pub StandsAt : {A : Type 0} → Role → Hand A → Tally → (seat counts : TableId) → (capacity count : ℕ) → Type 0
+StandsAt role held told seat counts capacity count =
+    (held ≡ hand role held.about capacity count) × (seat ≡ counts) × (told.stored ≡ count)

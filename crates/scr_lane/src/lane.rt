@@ -1,7 +1,7 @@
 //! The lane of a core: the messages that a plan says, each as one packet.
 ghost use Rattle.std.specs.Prelude.{◌≤◌, ◌<◌, ◌≡◌, ◌^◌, IfOk};
 ghost use Rattle.scr_lane.specs.Messages.{route, message_count};
-ghost use Rattle.scr_lane.specs.Ends.{begun};
+ghost use Rattle.scr_lane.specs.Ends.{most_waiting, begun};
 
 use crate::course::Course;
 use crate::ends::make_ends;
@@ -79,7 +79,7 @@ impl Lane {
     ) -> Result<(SendEnd, ReceiveEnd), OutOfMemory>
         requires a_core { core < plan.now.cores }
         requires some_room { 1 ≤ capacity }
-        requires little_room { capacity ≤ 1024 }
+        requires little_room { capacity ≤ most_waiting }
         ensures one_lane { IfOk result (λ ends. ends.0.lane ≡ ends.1.lane) }
         ensures send { IfOk result (λ ends. ends.0 ≡ begun ends.0.lane (route plan.now core) capacity) }
         ensures receive { IfOk result (λ ends. ends.1 ≡ begun ends.1.lane (route plan.now core) capacity) }

@@ -4,7 +4,7 @@ ghost use Rattle.std.specs.Arc.{arc_value};
 ghost use Rattle.crossbeam_queue.specs.Fifo.{Pops};
 ghost use Rattle.crossbeam_queue.specs.Passes.{view as knows, IsSamePass, IsPassOf};
 ghost use Rattle.scr_lane.specs.declared.view.Role.TheVariants.{Receiver as ReceiverRole};
-ghost use Rattle.scr_lane.specs.Views.{hand, tally};
+ghost use Rattle.scr_lane.specs.Views.{StandsAt};
 ghost use Rattle.scr_lane.specs.LaneRule.{InLane, Takes};
 ghost use Rattle.scr_lane.specs.Ends.{begun, moved, HasLooked, ShowsItem, FoundNothing, last_or};
 
@@ -33,7 +33,7 @@ impl<T: Drop, A, C: Course<T, A>> Model for Receiver<T, A, C> {
     ghost use Rattle.std.specs.Arc.{arc_value};
     ghost use Rattle.crossbeam_queue.specs.Passes.{view as knows, IsPassOf};
     ghost use Rattle.scr_lane.specs.declared.view.Role.TheVariants.{Receiver as ReceiverRole};
-    ghost use Rattle.scr_lane.specs.Views.{hand};
+    ghost use Rattle.scr_lane.specs.Views.{StandsAt};
     ghost use Rattle.scr_lane.specs.Ends.{End, last_or};
 
     ghost Value = { End A };
@@ -48,9 +48,7 @@ impl<T: Drop, A, C: Course<T, A>> Model for Receiver<T, A, C> {
 
     ghost invariant = { λ e.
         (IsPassOf (arc_value e.line).queue e.pass)
-        × (knows e.pass ≡ hand ReceiverRole (knows e.pass).about e.capacity e.count)
-        × (e.tally.seat.table_id ≡ (arc_value e.line).counts.table.shared.table_id)
-        × (e.tally.seat.me.0.stored ≡ e.count)
+        × (StandsAt ReceiverRole (knows e.pass) e.tally.seat.me.0 e.tally.seat.table_id (arc_value e.line).counts.table.shared.table_id e.capacity e.count)
         × (C.total (knows e.pass).about < 2 ^ 63)
         × (e.sent ≡ last_or 0 e.tally.seat.me.0.looks) };
 }
@@ -84,8 +82,9 @@ impl<T: Drop, A, C: Course<T, A>> Receiver<T, A, C> {
         seat: ReceiverTally,
         capacity: u32,
     ) -> Self
-        requires pass { IsPassOf (arc_value line).queue pass × (knows pass ≡ hand ReceiverRole (knows pass).about capacity 0) }
-        requires seat { (seat.seat.table_id ≡ (arc_value line).counts.table.shared.table_id) × (seat.seat.me.0 ≡ tally ReceiverRole 0 []) }
+        requires pass { IsPassOf (arc_value line).queue pass }
+        requires stands { StandsAt ReceiverRole (knows pass) seat.seat.me.0 seat.seat.table_id (arc_value line).counts.table.shared.table_id capacity 0 }
+        requires unseen { seat.seat.me.0.looks ≡ [] }
         requires few { C.total (knows pass).about < 2 ^ 63 }
         ensures { result ≡ begun (record { queue = pass.table_id; counts = seat.seat.table_id }) (knows pass).about capacity }
     {

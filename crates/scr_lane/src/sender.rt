@@ -4,7 +4,7 @@ ghost use Rattle.std.specs.Arc.{arc_value};
 ghost use Rattle.crossbeam_queue.specs.Fifo.{Pushes};
 ghost use Rattle.crossbeam_queue.specs.Passes.{view as knows, IsSamePass, IsPassOf, ruled_capacity};
 ghost use Rattle.scr_lane.specs.declared.view.Role.TheVariants.{Sender as SenderRole};
-ghost use Rattle.scr_lane.specs.Views.{hand, tally};
+ghost use Rattle.scr_lane.specs.Views.{StandsAt};
 ghost use Rattle.scr_lane.specs.LaneRule.{InLane, Sends, one_more};
 ghost use Rattle.scr_lane.specs.Ends.{begun, moved, HasLooked, ShowsRoom, FoundNoRoom, last_or};
 
@@ -33,7 +33,7 @@ impl<T: Drop, A, C: Course<T, A>> Model for Sender<T, A, C> {
     ghost use Rattle.std.specs.Arc.{arc_value};
     ghost use Rattle.crossbeam_queue.specs.Passes.{view as knows, IsPassOf, ruled_capacity};
     ghost use Rattle.scr_lane.specs.declared.view.Role.TheVariants.{Sender as SenderRole};
-    ghost use Rattle.scr_lane.specs.Views.{hand};
+    ghost use Rattle.scr_lane.specs.Views.{StandsAt};
     ghost use Rattle.scr_lane.specs.Ends.{End, last_or};
 
     ghost Value = { End A };
@@ -48,10 +48,8 @@ impl<T: Drop, A, C: Course<T, A>> Model for Sender<T, A, C> {
 
     ghost invariant = { λ e.
         (IsPassOf (arc_value e.line).queue e.pass)
-        × (knows e.pass ≡ hand SenderRole (knows e.pass).about e.capacity e.count)
+        × (StandsAt SenderRole (knows e.pass) e.tally.seat.me.0 e.tally.seat.table_id (arc_value e.line).counts.table.shared.table_id e.capacity e.count)
         × (ruled_capacity (arc_value e.line).queue ≡ e.capacity)
-        × (e.tally.seat.table_id ≡ (arc_value e.line).counts.table.shared.table_id)
-        × (e.tally.seat.me.0.stored ≡ e.count)
         × (C.total (knows e.pass).about < 2 ^ 63)
         × (0 < e.capacity)
         × (e.taken ≡ last_or 0 e.tally.seat.me.0.looks) };
@@ -88,9 +86,10 @@ impl<T: Drop, A, C: Course<T, A>> Sender<T, A, C> {
         seat: SenderTally,
         capacity: u32,
     ) -> Self
-        requires pass { IsPassOf (arc_value line).queue pass × (knows pass ≡ hand SenderRole (knows pass).about capacity 0) }
+        requires pass { IsPassOf (arc_value line).queue pass }
         requires queue { ruled_capacity (arc_value line).queue ≡ capacity }
-        requires seat { (seat.seat.table_id ≡ (arc_value line).counts.table.shared.table_id) × (seat.seat.me.0 ≡ tally SenderRole 0 []) }
+        requires stands { StandsAt SenderRole (knows pass) seat.seat.me.0 seat.seat.table_id (arc_value line).counts.table.shared.table_id capacity 0 }
+        requires unseen { seat.seat.me.0.looks ≡ [] }
         requires few { C.total (knows pass).about < 2 ^ 63 }
         requires room { 0 < capacity }
         ensures { result ≡ begun (record { queue = pass.table_id; counts = seat.seat.table_id }) (knows pass).about capacity }

@@ -3,6 +3,10 @@
 -- Numbers of packets are counted from 0 here: `q` stands for packet q + 1.
 use Rattle.std.specs.Prelude.{ℕ, ◌+◌, ◌*◌, ◌%◌}
 
+-- how many slots a core may have
+abbrev pub most_slots : ℕ
+most_slots = 4096
+
 -- how many words a slot has, how many a core, and how many there are in all
 abbrev pub slot_size : ℕ
 slot_size = 8

@@ -5,7 +5,7 @@ use Rattle.scr_plan.specs.Plan.{Plan, IsPlan, frame_count}
 use Rattle.scr_log.specs.declared.view.PassView.{PassView}
 use Rattle.scr_log.specs.declared.view.Noted.{Noted}
 use Rattle.scr_log.specs.declared.view.Noted.TheVariants.{Finished, Drawn}
-use Rattle.scr_log.specs.Layout.{word_count}
+use Rattle.scr_log.specs.Layout.{most_slots, word_count}
 
 -- the logs: their plan, the slots of each core, and which table they are, with the count of its words
 pub record LogsOf : Type 0 where
@@ -17,7 +17,7 @@ pub record LogsOf : Type 0 where
 pub record IsLogs (logs : LogsOf) : Type 0 where
   pub plan : IsPlan logs.plan
   pub some_slots : 1 ≤ logs.slots
-  pub few_slots : logs.slots ≤ 4096
+  pub few_slots : logs.slots ≤ most_slots
   pub words : logs.table.words ≡ word_count logs.plan.cores logs.slots
 
 -- a pass that has no core: how many draws it may make or hand on, what it has looked at, and how many times it has set the

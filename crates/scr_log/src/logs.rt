@@ -1,9 +1,9 @@
 ghost use Rattle.std.specs.Prelude.{◌≡◌, ◌≤◌, IfOk};
-ghost use Rattle.scr_log.specs.Layout.{word_count};
+ghost use Rattle.scr_log.specs.Layout.{most_slots, word_count};
 ghost use Rattle.scr_log.specs.Passes.{IsLogs, first_pass};
 
 use crate::pass::FreePass;
-use crate::places::SLOT;
+use crate::places::core_words;
 use crate::rule::LogRules;
 use crate::view::{About, PassView};
 use atomic_table::Table;
@@ -48,7 +48,7 @@ impl Logs {
     /// New logs for this plan, in which each core has so many slots, with a pass that has all draws.
     pub fn make(alloc: Global, plan: &RunPlan, slots: u32) -> Result<(Logs, FreePass), OutOfMemory>
         requires some_slots { 1 ≤ slots }
-        requires few_slots { slots ≤ 4096 }
+        requires few_slots { slots ≤ most_slots }
         ensures plan { IfOk result (λ made. made.0.plan ≡ plan.now) }
         ensures slots { IfOk result (λ made. made.0.slots ≡ slots) }
         ensures words { IfOk result (λ made. made.0.table.words ≡ word_count plan.now.cores slots) }
@@ -57,7 +57,7 @@ impl Logs {
     {
         let cores = plan.cores();
         let history = plan.history();
-        let count = cores as usize * (SLOT * slots as usize + 1) + 2;
+        let count = cores as usize * core_words(slots) + 2;
         let zeros = vec![in alloc; 0u64; count]?;
         let about = About {
             plan: Snapshot::of(plan),

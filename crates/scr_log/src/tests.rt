@@ -1,5 +1,6 @@
 ghost use Rattle.std.specs.Prelude.{◌≡◌, ◌≢◌, ◌≤◌, ◌<◌, ◌+◌, true, length, IfOk};
 ghost use Rattle.scr_log.specs.declared.room.Room.TheVariants.{Free};
+ghost use Rattle.scr_log.specs.Layout.{most_slots};
 ghost use Rattle.scr_log.specs.Passes.{IsNext, IsCurrent};
 
 use crate::{CorePass, Logs, Look, Room};
@@ -269,7 +270,7 @@ fn by_two_cores<R: Threads + Wait + Sync>(
 ) -> Result<Option<(Vec<Option<Row>>, Vec<Option<Row>>)>, OutOfMemory>
     requires cores { plan.now.cores ≡ 2 }
     requires some_slots { 1 ≤ slots }
-    requires few_slots { slots ≤ 4096 }
+    requires few_slots { slots ≤ most_slots }
     requires few { length plan.now.rows ≤ 1000000 }
 {
     let (logs, mut main) = Logs::make(alloc, plan, slots)?;

@@ -18,6 +18,10 @@ unfoldable pub drawn : (start i : ℕ) → ℕ
 drawn start zero = start
 drawn start (suc i) = (drawn start i * 6364136223846793005 + 1442695040888963407) % 2 ^ 64
 
+-- how many hosts there may be
+abbrev pub most_hosts : ℕ
+most_hosts = 65536
+
 -- what the high half of a record's number picks: the host, from 0, and the place in the table below
 abbrev pub host : (number hosts : ℕ) → ℕ
 host number hosts = number / 2 ^ 32 % hosts

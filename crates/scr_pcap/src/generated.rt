@@ -1,8 +1,9 @@
 //! A made-up capture. What it holds is said in specs/Generated.antt.
 ghost use Rattle.std.specs.Prelude.{◌≡◌, ◌≤◌, ◌<◌, ◌+◌, ◌*◌, ◌/◌, ◌%◌, ◌^◌, ◌++◌, ℕ, length, IfOk, OnOk, Ok};
 ghost use Rattle.byteorder.specs.Endian.{big_bytes};
-ghost use Rattle.scr_pcap.specs.Generated.{sent_at, frame_between, tcp_frame, udp_frame, frame_of, time_of, generated, generated_records, record_header, record_bytes};
+ghost use Rattle.scr_pcap.specs.Generated.{most_hosts, sent_at, frame_between, tcp_frame, udp_frame, frame_of, time_of, generated, generated_records, record_header, record_bytes};
 ghost use Rattle.scr_pcap.specs.Reading.{IsReading};
+ghost use Rattle.scr_pcap.specs.Records.{RECORDS};
 
 use scr_base::OutOfMemory;
 use std::alloc::Global;
@@ -87,9 +88,9 @@ const LONGEST_RECORD: usize = 70;
 
 /// A capture of so many made-up records of so many hosts. The same numbers give the same bytes.
 pub fn generate(alloc: Global, start: u64, frames: u32, hosts: u32) -> Result<Vec<u8>, OutOfMemory>
-    requires few_frames { frames ≤ 1000000 }
+    requires few_frames { frames ≤ RECORDS }
     requires some_host { 1 ≤ hosts }
-    requires few_hosts { hosts ≤ 65536 }
+    requires few_hosts { hosts ≤ most_hosts }
     ensures capture { IfOk result (λ bytes. bytes.items ≡ generated start frames hosts) }
     ensures reading { IfOk result (λ bytes. IsReading bytes.items (Ok (generated_records start frames hosts))) }
 {
@@ -115,9 +116,9 @@ fn next(number: u64) -> u64
 
 // Appends record i, which has this number.
 fn put_record(bytes: &mut Vec<u8>, i: u32, number: u64, hosts: u32) -> Result<(), OutOfMemory>
-    requires few_frames { i ≤ 1000000 }
+    requires few_frames { i ≤ RECORDS }
     requires some_host { 1 ≤ hosts }
-    requires few_hosts { hosts ≤ 65536 }
+    requires few_hosts { hosts ≤ most_hosts }
     ensures { OnOk result (bytes.new.items ≡ bytes.old.items ++ record_bytes (record { time = time_of i; content = frame_of number hosts })) }
 {
     let picked = (number >> 32) as u32;

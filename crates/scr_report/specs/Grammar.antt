@@ -3,6 +3,7 @@ use Rattle.std.specs.Prelude.{◌≡◌, ◌≢◌, ℕ, ◌+◌, ◌-◌, ◌<�
 use Rattle.std.specs.List.{onto_first}
 use Rattle.scr_plan.specs.declared.given.Given.{Given}
 use Rattle.scr_plan.specs.declared.counting.CoreCounts.{CoreCounts}
+use Rattle.scr_plan.specs.Limits.{most_cores}
 use Rattle.scr_report.specs.declared.report.ReportError.{ReportError}
 use Rattle.scr_report.specs.declared.report.ReportError.TheVariants.{Line, Ended, OutOfMemory}
 use Rattle.scr_report.specs.Text.{name_at}
@@ -43,7 +44,7 @@ pub record IsReadable (names : List (List ℕ)) (outcome : Outcome) : Type 0 whe
   pub frames : outcome.frames < 2 ^ 32
   pub delivered : outcome.delivered < 2 ^ 32
   pub kept : outcome.kept < 2 ^ 32
-  pub few_cores : length outcome.cores ≤ 16
+  pub few_cores : length outcome.cores ≤ most_cores
   pub cores : All AreCounts outcome.cores
   pub flows : outcome.flows < 2 ^ 64
   pub a_total_each : length outcome.totals ≡ length names

@@ -4,6 +4,7 @@ use Rattle.std.specs.List.{slice_index_or, zip, enumerate_from}
 use Rattle.std.specs.Char.{is_ascii_digit}
 use Rattle.scr_plan.specs.declared.given.Given.{Given}
 use Rattle.scr_plan.specs.declared.counting.CoreCounts.{CoreCounts}
+use Rattle.scr_plan.specs.Limits.{most_cores}
 use Rattle.scr_report.specs.declared.report.ReportError.{ReportError}
 use Rattle.scr_report.specs.declared.report.ReportError.TheVariants.{Line, Ended}
 use Rattle.scr_report.specs.Text.{name_at, verdict_line, frames_line, core_line, flows_line, total_line}
@@ -65,10 +66,10 @@ pub record LacksFrames (old : Cursor) (error : ReportError) : Type 0 where
 
 -- all core lines were read
 pub record ReadsCores (old new : Cursor) (cores : List CoreCounts) : Type 0 where
-  pub few : length cores ≤ 16
+  pub few : length cores ≤ most_cores
   pub each : All AreCounts cores
   pub past : GoesPast old new (map core_line (enumerate_from 0 cores))
-  pub no_more : length cores < 16 → (counts : CoreCounts) → AreCounts counts
+  pub no_more : length cores < most_cores → (counts : CoreCounts) → AreCounts counts
       → first_line new.text ≢ core_line (length cores, counts)
 
 -- the flows line was read

@@ -2,6 +2,7 @@
 use Rattle.std.specs.Prelude.{◌≡◌, ◌≢◌, ℕ, ◌<◌, ◌≤◌, List, [], ◌∷◌, false, All, length, ◌==◌}
 use Rattle.std.specs.List.{list_any}
 use Rattle.scr_plan.specs.declared.given.Given.{Given}
+use Rattle.scr_plan.specs.Limits.{most_cores}
 use Rattle.scr_report.specs.Text.{name_at}
 use Rattle.scr_report.specs.Outcome.{Outcome}
 
@@ -24,5 +25,5 @@ pub record FitsNames (names : List (List ℕ)) (outcome : Outcome) : Type 0 wher
 pub record IsPlain (names : List (List ℕ)) (outcome : Outcome) : Type 0 where
   pub fits : FitsNames names outcome
   pub plain : ArePlain names
-  pub few_cores : length outcome.cores ≤ 16
+  pub few_cores : length outcome.cores ≤ most_cores
   pub grow : Grow 0 outcome.verdicts

@@ -10,6 +10,10 @@ line [] = 10 ∷ []
 line (word ∷ []) = word ++ 10 ∷ []
 line (word ∷ words) = word ++ 32 ∷ line words
 
+-- how many names there may be
+abbrev pub most_names : ℕ
+most_names = 255
+
 -- the name at a place of the list of names
 abbrev pub name_at : List (List ℕ) → ℕ → List ℕ
 name_at names place = slice_index_or names place []

@@ -7,6 +7,7 @@ ghost use Rattle.scr_report.specs.Grammar.{Spells, AreCounts};
 ghost use Rattle.scr_report.specs.ReadBack.{ArePlain, Grow, IsPlain};
 
 use crate::names::Names;
+use crate::reading::MOST_CORES;
 use crate::report::Report;
 use scr_plan::{CoreCounts, Given};
 
@@ -17,7 +18,7 @@ pub fn is_plain(names: &Names, report: &Report) -> bool
     ensures read_back { IsTrue result → Spells names.now (report_text names.now report.now true) report.now }
 {
     let count = names.len();
-    if report.totals.len() != count || report.cores.len() > 16 {
+    if report.totals.len() != count || report.cores.len() > MOST_CORES {
         return false;
     }
     tell_bounds(

@@ -1,6 +1,6 @@
 ghost use Rattle.std.specs.Prelude.{◌≡◌, ◌≢◌, ℕ, ◌<◌, ◌≤◌, ◌++◌, ◌∷◌, [], List, All, length, map, OnOk, OnErr, IfOk, MatchOption, ◌==◌};
 ghost use Rattle.std.specs.String.{string_bytes};
-ghost use Rattle.scr_report.specs.Text.{name_at, line_ending};
+ghost use Rattle.scr_report.specs.Text.{most_names, name_at, line_ending};
 ghost use Rattle.scr_report.specs.Grammar.{IsFirstOfName};
 
 use scr_base::{OutOfMemory, Verdict};
@@ -25,7 +25,7 @@ impl Model for Names {
 
     ghost view = { λ names. map (λ name. string_bytes name.text) names.names.items };
 
-    ghost invariant = { λ names. (length names.names.items ≤ 255)
+    ghost invariant = { λ names. (length names.names.items ≤ most_names)
         × All (λ name. name.ending.items ≡ line_ending (string_bytes name.text)) names.names.items };
 }
 
@@ -41,7 +41,7 @@ impl Names {
 
     /// Puts a name behind the others. Where there is no memory, nothing changes.
     pub fn add(&mut self, name: &str) -> Result<(), OutOfMemory>
-        requires { length self.old < 255 }
+        requires { length self.old < most_names }
         ensures added { OnOk result (self.new ≡ self.old ++ name.now ∷ []) }
         ensures unchanged { OnErr result (self.new ≡ self.old) }
     {
@@ -55,7 +55,7 @@ impl Names {
     /// How many names there are.
     pub fn len(&self) -> usize
         ensures count { result ≡ length self.now }
-        ensures few { result ≤ 255 }
+        ensures few { result ≤ most_names }
     {
         self.names.len()
     }

@@ -13,7 +13,7 @@ use scr_plan::{CoreCounts, Given};
 use std::alloc::Global;
 
 /// How many cores a report may have.
-const MOST_CORES: usize = 16;
+pub(crate) const MOST_CORES: usize = 16;
 
 /// The report that some bytes spell. Otherwise `Line` with the first line that no report has behind the lines before it,
 /// or that has no line feed, or `Ended` with the line that is missing where the bytes end behind allowed lines.

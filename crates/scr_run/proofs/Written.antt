@@ -4,8 +4,8 @@ use Rattle.scr_base.specs.declared.row.Row.{Row}
 use Rattle.scr_pcap.specs.Records.{Record}
 use Rattle.scr_pcap.specs.Reading.{IsReading}
 use Rattle.scr_plan.specs.declared.counting.CoreCounts.{CoreCounts}
-use Rattle.scr_plan.specs.declared.drops.DropRange.{DropRange}
 use Rattle.scr_plan.specs.declared.given.Given.{Given}
+use Rattle.scr_plan.specs.Link.{Link}
 use Rattle.scr_plan.specs.Plan.{Plan}
 use Rattle.scr_report.specs.Outcome.{Outcome, report_of, totals_of}
 use Rattle.scr_run.specs.Asked.{IsOfCapture}
@@ -19,10 +19,10 @@ outcome-of names outcome verdicts frames delivered kept cores flows a b c d e f 
     λ i. record { verdicts = a i; frames = b i; delivered = c i; kept = d i; cores = e i; flows = f i; totals = g i }
 
 -- a plan by its parts
-pub plan-of : (plan : Plan) (rows : List Row) (cores history : ℕ) (drops : List DropRange)
-    → plan.rows ≡ rows → plan.cores ≡ cores → plan.history ≡ history → plan.drops ≡ drops
-    → plan ≡ record { rows = rows; cores = cores; history = history; drops = drops }
-plan-of plan rows cores history drops a b c d = λ i. record { rows = a i; cores = b i; history = c i; drops = d i }
+pub plan-of : (plan : Plan) (rows : List Row) (cores history : ℕ) (link : Link)
+    → plan.rows ≡ rows → plan.cores ≡ cores → plan.history ≡ history → plan.link ≡ link
+    → plan ≡ record { rows = rows; cores = cores; history = history; link = link }
+plan-of plan rows cores history link a b c d = λ i. record { rows = a i; cores = b i; history = c i; link = d i }
 
 -- the report of the records that were read is asked for
 pub IsOfCapture-from : (text : List Record → List ℕ) (report : List ℕ) (left : Option (List ℕ)) (records : List Record)

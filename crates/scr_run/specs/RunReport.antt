@@ -1,6 +1,6 @@
 -- The report of a run, from the records of its capture: the one-core answer over the packets that delivered frames
--- carry, and the counters. The lines of cores depend on cores, history and drop list; all else on history and drop list
--- alone.
+-- carry, and the counters. The lines of cores depend on cores, history and link; where no frame comes later, all else
+-- depends on history and link alone.
 use Rattle.std.specs.Prelude.{ℕ, Bool, true, false, List, [], map}
 use Rattle.std.specs.List.{range_with_len}
 use Rattle.scr_base.specs.declared.row.Row.{Row}
@@ -22,7 +22,7 @@ rows_of row_of records = map (λ r. row_of (fields r.content) r.time) records
 
 -- the plan of a run with this shape
 abbrev pub shaped : Shape → List Row → Plan
-shaped shape rows = record { rows = rows; cores = shape.cores; history = shape.history; drops = shape.drops }
+shaped shape rows = record { rows = rows; cores = shape.cores; history = shape.history; link = shape.link }
 
 -- what comes of a plan
 abbrev pub outcome_of : Rules → Plan → Outcome

@@ -1,24 +1,29 @@
 ghost use Rattle.std.specs.Prelude.{true, false, ◌≡◌};
 ghost use Rattle.std.specs.Io.KnownBytes.{IsAtEnd};
+ghost use Rattle.scr_chain.specs.Chains.{chained};
 ghost use Rattle.scr_pcap.specs.Generated.{generated_records};
 ghost use Rattle.scr_words.specs.Operands.{makes_load};
-ghost use Rattle.scr_run.specs.Rules.{ruled_by};
-ghost use Rattle.scr_run.specs.RunReport.{shaped_text, text_by};
-ghost use Rattle.scr_run.specs.Asked.{IsByCommand, IsBySettings};
+ghost use Rattle.scr_run.specs.Rules.{ruled_by, rules_of_one};
+ghost use Rattle.scr_run.specs.RunReport.{shaped_text};
+ghost use Rattle.scr_run.specs.Asked.{IsBySettings};
 ghost use Rattle.scr_run.specs.Ends.{Ends, IsText, ended};
+ghost use Rattle.scr_run.specs.Tasks.{IsByTask};
 
 use crate::engine::run_cores;
 use crate::plain::run_whole;
 use crate::status::Status;
+use crate::task::Task;
 use scr_base::{Sink, Source, SureSource};
 use scr_bucket::Bucket;
+use scr_chain::{Chain, ChainSettings};
 use scr_conn::Conn;
 use scr_ddos::Ddos;
 use scr_heavy::Heavy;
 use scr_knock::Knock;
 use scr_pcap::generate;
 use scr_program::Program;
-use scr_words::{Command, ProgramSettings, RunSettings};
+use scr_tables::Tables;
+use scr_words::{Command, OneSettings, ProgramSettings, RunSettings};
 use std::alloc::Global;
 
 /// Does what the settings ask for, with the program that they choose.
@@ -32,44 +37,149 @@ pub(crate) fn run_chosen<S: Source, O: Sink>(
         O.written (S.faults capture.old) (S.faults capture.new) O.faults O.wants out.old out.new (ended result) }
     ensures unread { makes_load chosen.command ≡ true → capture.new ≡ capture.old }
 {
-    match chosen.program {
-        ProgramSettings::Ddos(settings) => {
-            run_command::<Ddos, S, O>(alloc, &settings, chosen, capture, out)
+    let RunSettings {
+        command,
+        program,
+        shape,
+        start,
+        frames,
+        hosts,
+    } = chosen;
+    let task = Task {
+        command,
+        shape,
+        start,
+        frames,
+        hosts,
+    };
+    match program {
+        ProgramSettings::One(settings) => run_one(alloc, settings, task, capture, out),
+        ProgramSettings::Chain { first, second } => {
+            run_pair(alloc, first, second, task, capture, out)
         }
-        ProgramSettings::Heavy(settings) => {
-            run_command::<Heavy, S, O>(alloc, &settings, chosen, capture, out)
-        }
-        ProgramSettings::Bucket(settings) => {
-            run_command::<Bucket, S, O>(alloc, &settings, chosen, capture, out)
-        }
-        ProgramSettings::Knock(settings) => {
-            run_command::<Knock, S, O>(alloc, &settings, chosen, capture, out)
-        }
-        ProgramSettings::Conn(settings) => {
-            run_command::<Conn, S, O>(alloc, &settings, chosen, capture, out)
+        ProgramSettings::Table(settings) => {
+            run_command::<Tables, S, O>(alloc, &settings, task, capture, out)
         }
     }
 }
 
-// Does what the settings ask for, with this program.
-fn run_command<P: Program, S: Source, O: Sink>(
+// Does the task with one program.
+fn run_one<S: Source, O: Sink>(
     alloc: Global,
-    settings: &P::Settings,
-    chosen: RunSettings,
+    program: OneSettings,
+    task: Task,
     capture: &mut S,
     out: &mut O,
 ) -> Result<(), Status>
-    ensures ends { Ends
-        (IsByCommand (text_by (ruled_by (P.row_of settings.now) (P.verdict_after settings.now) (P.count_after settings.now) P.verdict_names) chosen.command chosen.shape)
-        (generated_records chosen.start chosen.frames chosen.hosts) (S.left capture.old) chosen.command)
-        (makes_load chosen.command ≡ false) (makes_load chosen.command ≡ false → IsAtEnd (S.left capture.new))
+    ensures ends { Ends (IsByTask (rules_of_one program) task (S.left capture.old)) (makes_load task.command ≡ false) (makes_load task.command ≡ false → IsAtEnd (S.left capture.new))
         O.written (S.faults capture.old) (S.faults capture.new) O.faults O.wants out.old out.new (ended result) }
-    ensures unread { makes_load chosen.command ≡ true → capture.new ≡ capture.old }
+    ensures unread { makes_load task.command ≡ true → capture.new ≡ capture.old }
 {
-    match chosen.command {
+    match program {
+        OneSettings::Ddos(settings) => {
+            run_command::<Ddos, S, O>(alloc, &settings, task, capture, out)
+        }
+        OneSettings::Heavy(settings) => {
+            run_command::<Heavy, S, O>(alloc, &settings, task, capture, out)
+        }
+        OneSettings::Bucket(settings) => {
+            run_command::<Bucket, S, O>(alloc, &settings, task, capture, out)
+        }
+        OneSettings::Knock(settings) => {
+            run_command::<Knock, S, O>(alloc, &settings, task, capture, out)
+        }
+        OneSettings::Conn(settings) => {
+            run_command::<Conn, S, O>(alloc, &settings, task, capture, out)
+        }
+    }
+}
+
+// Does the task with a chain of two programs. The words refuse the tracker as the first, and two of a kind; nothing here
+// depends on that.
+fn run_pair<S: Source, O: Sink>(
+    alloc: Global,
+    first: OneSettings,
+    second: OneSettings,
+    task: Task,
+    capture: &mut S,
+    out: &mut O,
+) -> Result<(), Status>
+    ensures ends { Ends (IsByTask (chained (rules_of_one first) (rules_of_one second)) task (S.left capture.old)) (makes_load task.command ≡ false) (makes_load task.command ≡ false → IsAtEnd (S.left capture.new))
+        O.written (S.faults capture.old) (S.faults capture.new) O.faults O.wants out.old out.new (ended result) }
+    ensures unread { makes_load task.command ≡ true → capture.new ≡ capture.old }
+{
+    match first {
+        OneSettings::Ddos(settings) => {
+            run_behind::<Ddos, S, O>(alloc, settings, second, task, capture, out)
+        }
+        OneSettings::Heavy(settings) => {
+            run_behind::<Heavy, S, O>(alloc, settings, second, task, capture, out)
+        }
+        OneSettings::Bucket(settings) => {
+            run_behind::<Bucket, S, O>(alloc, settings, second, task, capture, out)
+        }
+        OneSettings::Knock(settings) => {
+            run_behind::<Knock, S, O>(alloc, settings, second, task, capture, out)
+        }
+        OneSettings::Conn(settings) => {
+            run_behind::<Conn, S, O>(alloc, settings, second, task, capture, out)
+        }
+    }
+}
+
+// Does the task with a chain whose first program is this one.
+fn run_behind<A: Program, S: Source, O: Sink>(
+    alloc: Global,
+    first: A::Settings,
+    second: OneSettings,
+    task: Task,
+    capture: &mut S,
+    out: &mut O,
+) -> Result<(), Status>
+    ensures ends { Ends (IsByTask (chained (ruled_by (A.row_of first) (A.verdict_after first) (A.count_after first) A.verdict_names) (rules_of_one second)) task (S.left capture.old)) (makes_load task.command ≡ false) (makes_load task.command ≡ false → IsAtEnd (S.left capture.new))
+        O.written (S.faults capture.old) (S.faults capture.new) O.faults O.wants out.old out.new (ended result) }
+    ensures unread { makes_load task.command ≡ true → capture.new ≡ capture.old }
+{
+    match second {
+        OneSettings::Ddos(second) => {
+            let settings = ChainSettings { first, second };
+            run_command::<Chain<A, Ddos>, S, O>(alloc, &settings, task, capture, out)
+        }
+        OneSettings::Heavy(second) => {
+            let settings = ChainSettings { first, second };
+            run_command::<Chain<A, Heavy>, S, O>(alloc, &settings, task, capture, out)
+        }
+        OneSettings::Bucket(second) => {
+            let settings = ChainSettings { first, second };
+            run_command::<Chain<A, Bucket>, S, O>(alloc, &settings, task, capture, out)
+        }
+        OneSettings::Knock(second) => {
+            let settings = ChainSettings { first, second };
+            run_command::<Chain<A, Knock>, S, O>(alloc, &settings, task, capture, out)
+        }
+        OneSettings::Conn(second) => {
+            let settings = ChainSettings { first, second };
+            run_command::<Chain<A, Conn>, S, O>(alloc, &settings, task, capture, out)
+        }
+    }
+}
+
+// Does the task with this program.
+fn run_command<P: Program, S: Source, O: Sink>(
+    alloc: Global,
+    settings: &P::Settings,
+    task: Task,
+    capture: &mut S,
+    out: &mut O,
+) -> Result<(), Status>
+    ensures ends { Ends (IsByTask (ruled_by (P.row_of settings.now) (P.verdict_after settings.now) (P.count_after settings.now) P.verdict_names) task (S.left capture.old)) (makes_load task.command ≡ false) (makes_load task.command ≡ false → IsAtEnd (S.left capture.new))
+        O.written (S.faults capture.old) (S.faults capture.new) O.faults O.wants out.old out.new (ended result) }
+    ensures unread { makes_load task.command ≡ true → capture.new ≡ capture.old }
+{
+    match task.command {
         Command::Plain => run_whole::<P, S, O>(alloc, settings, capture, out),
-        Command::Run => run_cores::<P, S, O>(alloc, settings, chosen.shape, true, capture, out),
-        Command::Load => run_load::<P, O>(alloc, settings, chosen, out),
+        Command::Run => run_cores::<P, S, O>(alloc, settings, task.shape, true, capture, out),
+        Command::Load => run_load::<P, O>(alloc, settings, task, out),
     }
 }
 
@@ -77,15 +187,15 @@ fn run_command<P: Program, S: Source, O: Sink>(
 fn run_load<P: Program, O: Sink>(
     alloc: Global,
     settings: &P::Settings,
-    chosen: RunSettings,
+    task: Task,
     out: &mut O,
 ) -> Result<(), Status>
     ensures ends { Ends
-        (IsText (shaped_text (ruled_by (P.row_of settings.now) (P.verdict_after settings.now) (P.count_after settings.now) P.verdict_names) chosen.shape false
-        (generated_records chosen.start chosen.frames chosen.hosts)))
+        (IsText (shaped_text (ruled_by (P.row_of settings.now) (P.verdict_after settings.now) (P.count_after settings.now) P.verdict_names) task.shape false
+        (generated_records task.start task.frames task.hosts)))
         ⊥ (Unit {0}) O.written 0 0 O.faults O.wants out.old out.new (ended result) }
 {
-    let bytes = generate(alloc, chosen.start, chosen.frames, chosen.hosts)?;
+    let bytes = generate(alloc, task.start, task.frames, task.hosts)?;
     let mut made = SureSource::new(bytes, usize::MAX);
-    run_cores::<P, SureSource, O>(alloc, settings, chosen.shape, false, &mut made, out)
+    run_cores::<P, SureSource, O>(alloc, settings, task.shape, false, &mut made, out)
 }

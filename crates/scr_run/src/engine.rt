@@ -96,7 +96,7 @@ pub(crate) fn run_cores<P: Program, S: Source, O: Sink>(
         (Unit {0}) (IsAtEnd (S.left capture.new)) O.written (S.faults capture.old) (S.faults capture.new) O.faults O.wants out.old out.new (ended result) }
 {
     let rows = rows_read::<P, S>(alloc, settings, capture)?;
-    let plan = RunPlan::make(rows, shape.cores, shape.history, shape.drops);
+    let plan = RunPlan::make(rows, shape.cores, shape.history, shape.link);
     let gathered = run_phases::<P>(alloc, settings, &plan)?;
     let report = report_on::<P>(alloc, &plan, gathered)?;
     write_found::<P, O>(alloc, &report, with_verdicts, out)

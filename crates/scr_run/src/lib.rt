@@ -8,7 +8,7 @@
 //! **What a contract sees.** Words, captures, reports and lines as lists of bytes, and streams as scr_base has them, by
 //! what is left or written and by counts of failures and wants. A program is seen by its row of a frame, its verdict of a
 //! row after others, its count of entries and its names (specs/Rules.antt). The report of a run is that of the one-core
-//! answer over a plan of its rows, cores, history and drop list (specs/RunReport.antt). What words and a capture ask for,
+//! answer over a plan of its rows, cores, history and link (specs/RunReport.antt). What words and a capture ask for,
 //! a text or the status that refuses, is specs/Asked.antt, and how a run ends over it specs/Ends.antt.
 //!
 //! **What is proved.** A run that is done has read the whole capture and written exactly the text that is asked for. What
@@ -34,18 +34,19 @@ mod laws;
 mod names;
 mod plain;
 mod status;
+mod task;
 #[cfg(test)]
 mod tests;
 mod top;
 
 pub use engine::run_engine;
 pub use fault_line::{tell_want, write_fault_line};
-pub use laws::plain_without_drops;
+pub use laws::plain_over_an_empty_link;
 pub use names::names_of;
 pub use plain::plain_run;
 pub use scr_words::{
-    Command, ProgramSettings, RunSettings, Shape, WordCause, WordFault, WordsError, one_answer,
-    put_word_line, read_words, some_answer,
+    Command, OneSettings, ProgramSettings, RunSettings, Shape, WordCause, WordFault, WordsError,
+    one_answer, put_word_line, read_words, some_answer,
 };
 pub use status::Status;
 pub use top::scr_main;

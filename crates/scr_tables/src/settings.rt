@@ -1,4 +1,5 @@
 ghost use Rattle.std.specs.Prelude.{◌≡◌, ◌≤◌};
+ghost use Rattle.scr_program.specs.declared.table.TheConstants.{MOST_FLOWS};
 ghost use Rattle.scr_tables.specs.Rules.{IsTable};
 
 use crate::table::Table;
@@ -12,14 +13,14 @@ pub struct TableSettings {
     pub flows: u32,
     ghost valid: { IsTable table },
     ghost some: { 1 ≤ flows },
-    ghost few: { flows ≤ 65536 },
+    ghost few: { flows ≤ MOST_FLOWS },
 }
 
 impl TableSettings {
     /// The settings with this table and so many sources.
     pub fn new(table: Table, flows: u32) -> Self
         requires some { 1 ≤ flows }
-        requires few { flows ≤ 65536 }
+        requires few { flows ≤ MOST_FLOWS }
         ensures table { result.table ≡ table }
         ensures flows { result.flows ≡ flows }
     {

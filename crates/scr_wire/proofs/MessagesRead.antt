@@ -14,7 +14,7 @@ use Rattle.scr_wire.specs.declared.message.Message.{Message}
 use Rattle.scr_wire.specs.declared.message.Message.TheVariants.{Frame, Beacon, End}
 use Rattle.scr_wire.specs.declared.message.MessageKind.{MessageKind}
 use Rattle.scr_wire.specs.declared.message.MessageKind.TheVariants as kind
-use Rattle.scr_wire.specs.Kinds.{code_of, is_code, kind_with, allows}
+use Rattle.scr_wire.specs.Kinds.{code_of, is_code, kind_with, most_rows, allows}
 use Rattle.scr_wire.specs.Spelling.{kind_of, number_of, rows_of, header_bytes, rows_bytes, IsRow, Spells}
 use Rattle.scr_wire.specs.Reading.{rows_in, number_in, count_in, message_of, message_in}
 use Rattle.scr_wire.specs.Refusals.{has_mark, has_count, refusal}
@@ -62,7 +62,7 @@ number_of_message kind.Frame number rows = refl
 number_of_message kind.Beacon number rows = refl
 number_of_message kind.End number rows = refl
 
-few_rows : (k : MessageKind) (number count : ℕ) → IsTrue (allows k number count) → count ≤ 65
+few_rows : (k : MessageKind) (number count : ℕ) → IsTrue (allows k number count) → count ≤ most_rows
 few_rows kind.Frame number count h = grind (arith, nat_tests)
 few_rows kind.Beacon number count h = grind (arith, nat_tests)
 few_rows kind.End number count h = grind (arith, nat_tests)
@@ -233,7 +233,7 @@ one_message_in m bytes s =
     let k = kind_of m in
     let number = number_of m in
     let rows = rows_of m in
-    let few : length rows ≤ 65 = few_rows k number (length rows) s.has_spelling.count in
+    let few : length rows ≤ most_rows = few_rows k number (length rows) s.has_spelling.count in
     let f : Fields k number (length rows) (rows_bytes rows) bytes =
     subst (Fields k number (length rows) (rows_bytes rows)) (sym s.spelled) (fields_again k number (length rows) (rows_bytes rows) s.has_spelling.number (omega arith)) in
     let p = passes_by_fields k number (length rows) (rows_bytes rows) bytes f s.has_spelling.count (length-rows_bytes rows) in

@@ -5,6 +5,9 @@ ghost use Rattle.scr_wire.specs.Kinds.{code_of, is_code, kind_with, allows};
 use scr_base::Row;
 use std::marker::Model;
 
+/// The most rows that a frame may have: its own behind the longest history.
+const MOST_ROWS: u16 = 65;
+
 /// The rows of a frame's message, the oldest first.
 #[derive(Debug, Drop)]
 pub struct Rows {
@@ -88,7 +91,7 @@ impl MessageKind {
         ensures { result ≡ allows self number count }
     {
         match self {
-            MessageKind::Frame => 1 <= count && count <= 65 && u32::from(count) <= number,
+            MessageKind::Frame => 1 <= count && count <= MOST_ROWS && u32::from(count) <= number,
             MessageKind::Beacon | MessageKind::End => count == 0,
         }
     }

@@ -1,5 +1,5 @@
 ghost use Rattle.std.specs.Prelude.{◌≡◌, ◌≤◌, ◌<◌, ◌^◌, ◌+◌, ◌++◌, ◌∷◌, [], List, ℕ, length, IfOk, All, IsTrue};
-ghost use Rattle.scr_wire.specs.Kinds.{allows};
+ghost use Rattle.scr_wire.specs.Kinds.{allows, most_rows};
 ghost use Rattle.scr_wire.specs.Spelling.{kind_of, number_of, rows_of, header_bytes, rows_bytes, IsRow, Spells};
 ghost use Rattle.scr_wire.specs.declared.message.Message.TheVariants as message;
 
@@ -39,7 +39,7 @@ fn packet_of(
     back: &[Row],
     last: &[Row],
 ) -> Result<Packet, OutOfMemory>
-    requires { length front.now + length back.now + length last.now ≤ 65 }
+    requires { length front.now + length back.now + length last.now ≤ most_rows }
     ensures written { IfOk result (λ packet. packet ≡ header_bytes kind number (length front.now + length back.now + length last.now) ++ rows_bytes front.now ++ rows_bytes back.now ++ rows_bytes last.now) }
     ensures fits { IfOk result (λ _. All IsRow front.now × All IsRow back.now × All IsRow last.now) }
 {
@@ -84,7 +84,7 @@ pub fn encode_frame(
     back: &[Row],
     last: &Row,
 ) -> Result<Packet, OutOfMemory>
-    requires at_most_65 { length front.now + length back.now + 1 ≤ 65 }
+    requires few_rows { length front.now + length back.now + 1 ≤ most_rows }
     requires at_most_its_number { length front.now + length back.now + 1 ≤ number }
     ensures { IfOk result (Spells (message.Frame number (front.now ++ back.now ++ last.now ∷ []))) }
 {

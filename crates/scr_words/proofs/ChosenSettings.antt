@@ -1,30 +1,44 @@
 -- Words without a fault choose some settings, and only these.
-use Rattle.std.proofs.Common.{◌≡◌, ℕ, ◌≤◌, List, Bool, true, false, cond, not, ◌&&◌, leb, codes, bytes_eq, Some, None, Ok, Err, refl, sym, ap, ◌∙◌, arith}
+use Rattle.std.proofs.Common.{◌≡◌, ◌⊎◌, inl, inr, ℕ, ◌≤◌, List, [], Bool, true, false, cond, not, ◌&&◌, leb, codes, bytes_eq, Option, Some, None, Ok, Err, refl, sym, ap, ◌∙◌, subst, arith}
 use Rattle.std.specs.List.{before_first, after_first}
 use Rattle.std.proofs.lemmas.Bool.{and_parts}
 use Rattle.std.proofs.lemmas.Bool.Decides.{nat_tests}
 use Rattle.std.proofs.Math.Bridge.{le_prop}
 use Rattle.std.proofs.Math.Path.{PathP, to_path_p}
+use mathlib.Core.Bool.{Bool-set}
 use Rattle.scr_base.specs.Numbers.{is_number, number_of}
 use Rattle.scr_plan.proofs.OneReading.{Spells-same}
+use Rattle.scr_plan.specs.Link.{Link}
 use Rattle.scr_program.specs.declared.setting.SettingError.TheVariants.{Value, Range}
 use Rattle.scr_knock.specs.Ports.{is_comma, is_port, ports_of}
 use Rattle.scr_knock.specs.declared.settings.KnockSettings.{KnockSettings}
+use Rattle.scr_tables.specs.Rules.{IsTable}
+use Rattle.scr_tables.specs.Spelling as tables
+use Rattle.scr_tables.specs.declared.rule.Rule.{Rule}
+use Rattle.scr_tables.specs.declared.settings.TableSettings.{TableSettings}
+use Rattle.scr_tables.proofs.OneReading as tables_are
+use Rattle.scr_tables.proofs.Spelled.{IsTable-from_rules}
 use Rattle.scr_words.specs.Limits.{most_flows}
 use Rattle.scr_words.specs.declared.settings.Command.{Command}
 use Rattle.scr_words.specs.declared.settings.ProgramSettings.{ProgramSettings}
-use Rattle.scr_words.specs.declared.settings.ProgramSettings.TheVariants.{Ddos, Heavy, Bucket, Knock, Conn}
+use Rattle.scr_words.specs.declared.settings.ProgramSettings.TheVariants.{One, Chain, Table}
+use Rattle.scr_words.specs.declared.settings.OneSettings.{OneSettings}
+use Rattle.scr_words.specs.declared.settings.OneSettings.TheVariants.{Ddos, Heavy, Bucket, Knock, Conn}
 use Rattle.scr_words.specs.declared.settings.RunSettings.{RunSettings}
 use Rattle.scr_words.specs.declared.settings.Shape.{Shape}
-use Rattle.scr_words.specs.declared.operand.ProgramName.{ProgramName}
-use Rattle.scr_words.specs.declared.operand.ProgramName.TheVariants as program
+use Rattle.scr_words.specs.declared.program_name.OneName.{OneName}
+use Rattle.scr_words.specs.declared.program_name.OneName.TheVariants as name
+use Rattle.scr_words.specs.declared.program_name.ProgramName.{ProgramName}
+use Rattle.scr_words.specs.declared.program_name.ProgramName.TheVariants as program
 use Rattle.scr_words.specs.declared.operand.Operand.TheVariants as operand
-use Rattle.scr_words.specs.WordParts.{chosen}
-use Rattle.scr_words.specs.WordFaults.{setting_fault}
+use Rattle.scr_words.specs.Operands.{table}
+use Rattle.scr_words.specs.WordParts.{given, program_in, first_in, second_in}
+use Rattle.scr_words.specs.WordFaults.{setting_fault, lacks_operand}
 use Rattle.scr_words.specs.WordTests.{HaveFaultlessValues}
-use Rattle.scr_words.specs.GivenSettings.{value_for, number_for, history_for, HasPorts, HasProgram, HasShape, AreChosen}
+use Rattle.scr_words.specs.GivenSettings.{value_for, number_for, history_for, HasPorts, HasNumbers, name_of, HasProgram, HasLink, HasShape, AreChosen}
 use Rattle.scr_words.proofs.GivenValues.{value_for-passes}
-use Rattle.scr_words.proofs.DropListFaults.{drop_list_fault-empty}
+use Rattle.scr_words.proofs.FaultlessWords.{lacks-program, lacks-table, lacks-first, lacks-second}
+use Rattle.scr_words.proofs.TextFaults.{drop_list_fault-empty, table-some}
 use Rattle.scr_words.proofs.FaultlessValues.{Spells-some, number-inside, history-short}
 
 -- ports without a fault
@@ -83,6 +97,12 @@ at_least {bound} e p q = to_path_p (λ i. bound ≤ e i) (le_prop _ q)
 at_most : {bound m n : ℕ} (e : m ≡ n) (p : m ≤ bound) (q : n ≤ bound) → PathP (λ i. e i ≤ bound) p q
 at_most {bound} e p q = to_path_p (λ i. e i ≤ bound) (le_prop _ q)
 
+IsTable-prop : (rules : List Rule) → IsProp (IsTable rules)
+IsTable-prop rules = hlevel (le_prop, Bool-set)
+
+is_table : {a b : List Rule} (e : a ≡ b) (p : IsTable a) (q : IsTable b) → PathP (λ i. IsTable (e i)) p q
+is_table {b = b} e p q = to_path_p (λ i. IsTable (e i)) (IsTable-prop b _ q)
+
 module _ (operands : List (List ℕ)) (values : HaveFaultlessValues operands) where
   flows_inside : (1 ≤ number_for operand.Flows operands) × (number_for operand.Flows operands ≤ most_flows)
   flows_inside = number-inside operands values operand.Flows refl refl
@@ -91,15 +111,15 @@ module _ (operands : List (List ℕ)) (values : HaveFaultlessValues operands) wh
   ports_are = ArePorts-from _ _ _ (value_for-passes operand.Ports operands values refl)
 
   -- the settings of a program by the values that its operands have
-  abbrev made : ProgramName → ProgramSettings
-  made program.Ddos = Ddos (record {
+  abbrev made : OneName → OneSettings
+  made name.Ddos = Ddos (record {
     threshold = number_for operand.Threshold operands;
     flows = number_for operand.Flows operands;
     threshold_fits = (number-inside operands values operand.Threshold refl refl).1;
     some = flows_inside.0;
     few = flows_inside.1;
   })
-  made program.Heavy = Heavy (record {
+  made name.Heavy = Heavy (record {
     bytes = number_for operand.Bytes operands;
     flows = number_for operand.Flows operands;
     bytes_some = (number-inside operands values operand.Bytes refl refl).0;
@@ -107,7 +127,7 @@ module _ (operands : List (List ℕ)) (values : HaveFaultlessValues operands) wh
     some = flows_inside.0;
     few = flows_inside.1;
   })
-  made program.Bucket = Bucket (record {
+  made name.Bucket = Bucket (record {
     rate = number_for operand.Rate operands;
     burst = number_for operand.Burst operands;
     flows = number_for operand.Flows operands;
@@ -117,7 +137,7 @@ module _ (operands : List (List ℕ)) (values : HaveFaultlessValues operands) wh
     some = flows_inside.0;
     few = flows_inside.1;
   })
-  made program.Knock = Knock (record {
+  made name.Knock = Knock (record {
     first = number_of (first_text (value_for operand.Ports operands));
     second = number_of (second_text (value_for operand.Ports operands));
     third = number_of (third_text (value_for operand.Ports operands));
@@ -128,7 +148,7 @@ module _ (operands : List (List ℕ)) (values : HaveFaultlessValues operands) wh
     some_flows = flows_inside.0;
     few_flows = flows_inside.1;
   })
-  made program.Conn = Conn (record {
+  made name.Conn = Conn (record {
     idle = number_for operand.Idle operands;
     flows = number_for operand.Flows operands;
     some_time = (number-inside operands values operand.Idle refl refl).0;
@@ -137,93 +157,105 @@ module _ (operands : List (List ℕ)) (values : HaveFaultlessValues operands) wh
     few_flows = flows_inside.1;
   })
 
-  HasProgram-made : (name : ProgramName) → chosen operands ≡ Some name → HasProgram operands (made name)
-  HasProgram-made program.Ddos is = (is, refl, refl)
-  HasProgram-made program.Heavy is = (is, refl, refl)
-  HasProgram-made program.Bucket is = (is, refl, refl, refl)
-  HasProgram-made program.Knock is = (is, rw ports_are.read (refl, refl, refl), refl)
-  HasProgram-made program.Conn is = (is, refl, refl)
+  name_of-made : (one : OneName) → name_of (made one) ≡ one
+  name_of-made name.Ddos = refl
+  name_of-made name.Heavy = refl
+  name_of-made name.Bucket = refl
+  name_of-made name.Knock = refl
+  name_of-made name.Conn = refl
 
-  -- no others are chosen
-  record IsMade (settings : ProgramSettings) : Type 0 where
-    name : ProgramName
-    is_chosen : chosen operands ≡ Some name
-    same : settings ≡ made name
+  named : (one : OneName) → Some one ≡ Some (name_of (made one))
+  named one = ap Some (sym (name_of-made one))
 
-  IsMade-from : (settings : ProgramSettings) → HasProgram operands settings → IsMade settings
-  IsMade-from (Ddos settings) (is, threshold, flows) = record {
-    name = program.Ddos;
-    is_chosen = is;
-    same = λ i. Ddos (record {
-      threshold = threshold i;
-      flows = flows i;
-      threshold_fits = at_most threshold settings.threshold_fits (number-inside operands values operand.Threshold refl refl).1 i;
-      some = at_least flows settings.some flows_inside.0 i;
-      few = at_most flows settings.few flows_inside.1 i;
-    });
-  }
-  IsMade-from (Heavy settings) (is, bytes, flows) = record {
-    name = program.Heavy;
-    is_chosen = is;
-    same = λ i. Heavy (record {
-      bytes = bytes i;
-      flows = flows i;
-      bytes_some = at_least bytes settings.bytes_some (number-inside operands values operand.Bytes refl refl).0 i;
-      bytes_fits = at_most bytes settings.bytes_fits (number-inside operands values operand.Bytes refl refl).1 i;
-      some = at_least flows settings.some flows_inside.0 i;
-      few = at_most flows settings.few flows_inside.1 i;
-    });
-  }
-  IsMade-from (Bucket settings) (is, rate, burst, flows) = record {
-    name = program.Bucket;
-    is_chosen = is;
-    same = λ i. Bucket (record {
-      rate = rate i;
-      burst = burst i;
-      flows = flows i;
-      rate_fits = at_most rate settings.rate_fits (number-inside operands values operand.Rate refl refl).1 i;
-      burst_some = at_least burst settings.burst_some (number-inside operands values operand.Burst refl refl).0 i;
-      burst_fits = at_most burst settings.burst_fits (number-inside operands values operand.Burst refl refl).1 i;
-      some = at_least flows settings.some flows_inside.0 i;
-      few = at_most flows settings.few flows_inside.1 i;
-    });
-  }
-  IsMade-from (Knock settings) (is, ports, flows) =
+  HasNumbers-made : (one : OneName) → HasNumbers operands (made one)
+  HasNumbers-made name.Ddos = (refl, refl)
+  HasNumbers-made name.Heavy = (refl, refl)
+  HasNumbers-made name.Bucket = (refl, refl, refl)
+  HasNumbers-made name.Knock = (rw ports_are.read (refl, refl, refl), refl)
+  HasNumbers-made name.Conn = (refl, refl)
+
+  -- no others have these numbers
+  made-same : (settings : OneSettings) → HasNumbers operands settings → settings ≡ made (name_of settings)
+  made-same (Ddos settings) (threshold, flows) =
+      λ i. Ddos (record {
+        threshold = threshold i;
+        flows = flows i;
+        threshold_fits = at_most threshold settings.threshold_fits (number-inside operands values operand.Threshold refl refl).1 i;
+        some = at_least flows settings.some flows_inside.0 i;
+        few = at_most flows settings.few flows_inside.1 i;
+      })
+  made-same (Heavy settings) (bytes, flows) =
+      λ i. Heavy (record {
+        bytes = bytes i;
+        flows = flows i;
+        bytes_some = at_least bytes settings.bytes_some (number-inside operands values operand.Bytes refl refl).0 i;
+        bytes_fits = at_most bytes settings.bytes_fits (number-inside operands values operand.Bytes refl refl).1 i;
+        some = at_least flows settings.some flows_inside.0 i;
+        few = at_most flows settings.few flows_inside.1 i;
+      })
+  made-same (Bucket settings) (rate, burst, flows) =
+      λ i. Bucket (record {
+        rate = rate i;
+        burst = burst i;
+        flows = flows i;
+        rate_fits = at_most rate settings.rate_fits (number-inside operands values operand.Rate refl refl).1 i;
+        burst_some = at_least burst settings.burst_some (number-inside operands values operand.Burst refl refl).0 i;
+        burst_fits = at_most burst settings.burst_fits (number-inside operands values operand.Burst refl refl).1 i;
+        some = at_least flows settings.some flows_inside.0 i;
+        few = at_most flows settings.few flows_inside.1 i;
+      })
+  made-same (Knock settings) (ports, flows) =
       let (first, second, third) = HasPorts-are (value_for operand.Ports operands) settings ports_are ports in
-      record {
-        name = program.Knock;
-        is_chosen = is;
-        same = λ i. Knock (record {
-          first = first i;
-          second = second i;
-          third = third i;
-          flows = flows i;
-          some_first = at_least first settings.some_first ports_are.first_some i;
-          some_second = at_least second settings.some_second ports_are.second_some i;
-          some_third = at_least third settings.some_third ports_are.third_some i;
-          some_flows = at_least flows settings.some_flows flows_inside.0 i;
-          few_flows = at_most flows settings.few_flows flows_inside.1 i;
-        });
+      λ i. Knock (record {
+        first = first i;
+        second = second i;
+        third = third i;
+        flows = flows i;
+        some_first = at_least first settings.some_first ports_are.first_some i;
+        some_second = at_least second settings.some_second ports_are.second_some i;
+        some_third = at_least third settings.some_third ports_are.third_some i;
+        some_flows = at_least flows settings.some_flows flows_inside.0 i;
+        few_flows = at_most flows settings.few_flows flows_inside.1 i;
+      })
+  made-same (Conn settings) (idle, flows) =
+      λ i. Conn (record {
+        idle = idle i;
+        flows = flows i;
+        some_time = at_least idle settings.some_time (number-inside operands values operand.Idle refl refl).0 i;
+        few_time = at_most idle settings.few_time (number-inside operands values operand.Idle refl refl).1 i;
+        some_flows = at_least flows settings.some_flows flows_inside.0 i;
+        few_flows = at_most flows settings.few_flows flows_inside.1 i;
+      })
+
+  table-same : (a b : TableSettings) → tables.Spells (value_for operand.Table operands) a.table → tables.Spells (value_for operand.Table operands) b.table
+      → a.flows ≡ number_for operand.Flows operands → b.flows ≡ number_for operand.Flows operands → a ≡ b
+  table-same a b spells_a spells_b flows_a flows_b =
+      let table = tables_are.Spells-same (value_for operand.Table operands) a.table b.table spells_a spells_b in
+      let flows = flows_a ∙ sym flows_b in
+      λ i. record {
+        table = table i;
+        flows = flows i;
+        valid = is_table table a.valid b.valid i;
+        some = at_least flows a.some b.some i;
+        few = at_most flows a.few b.few i;
       }
-  IsMade-from (Conn settings) (is, idle, flows) = record {
-    name = program.Conn;
-    is_chosen = is;
-    same = λ i. Conn (record {
-      idle = idle i;
-      flows = flows i;
-      some_time = at_least idle settings.some_time (number-inside operands values operand.Idle refl refl).0 i;
-      few_time = at_most idle settings.few_time (number-inside operands values operand.Idle refl refl).1 i;
-      some_flows = at_least flows settings.some_flows flows_inside.0 i;
-      few_flows = at_most flows settings.few_flows flows_inside.1 i;
-    });
-  }
+
+  one-same : (a b : OneSettings) → HasNumbers operands a → HasNumbers operands b → name_of a ≡ name_of b → a ≡ b
+  one-same a b has_a has_b same = made-same a has_a ∙ ap made same ∙ sym (made-same b has_b)
 
   program-same : (a b : ProgramSettings) → HasProgram operands a → HasProgram operands b → a ≡ b
-  program-same a b has_a has_b =
-      let of_a = IsMade-from a has_a in
-      let of_b = IsMade-from b has_b in
-      let name : of_a.name ≡ of_b.name = cc (of_a.is_chosen, of_b.is_chosen) in
-      of_a.same ∙ ap made name ∙ sym of_b.same
+  program-same (One a) (One b) has_a has_b = ap One (one-same a b has_a.1 has_b.1 (cc (has_a.0, has_b.0)))
+  program-same (Chain a c) (Chain b d) has_a has_b =
+      let first = one-same a b has_a.3 has_b.3 (cc (has_a.1, has_b.1)) in
+      let second = one-same c d has_a.4 has_b.4 (cc (has_a.2, has_b.2)) in
+      λ i. Chain (first i) (second i)
+  program-same (Table a) (Table b) has_a has_b = ap Table (table-same a b has_a.1 has_b.1 has_a.2 has_b.2)
+  program-same (One a) (Chain b d) has_a has_b = absurd (cc (has_a.0, has_b.0))
+  program-same (One a) (Table b) has_a has_b = absurd (cc (has_a.0, has_b.0))
+  program-same (Chain a c) (One b) has_a has_b = absurd (cc (has_a.0, has_b.0))
+  program-same (Chain a c) (Table b) has_a has_b = absurd (cc (has_a.0, has_b.0))
+  program-same (Table a) (One b) has_a has_b = absurd (cc (has_a.0, has_b.0))
+  program-same (Table a) (Chain b d) has_a has_b = absurd (cc (has_a.0, has_b.0))
 
   shape_some : (shape : Shape) × HasShape operands shape
   shape_some =
@@ -233,7 +265,7 @@ module _ (operands : List (List ℕ)) (values : HaveFaultlessValues operands) wh
       let shape : Shape = record {
         cores = number_for operand.Cores operands;
         history = history_for operands;
-        drops = ranges;
+        link = record { drops = ranges; repeats = []; delays = []; missing = [] };
         ring = number_for operand.Ring operands;
         threads = bytes_eq (value_for operand.Threads operands) (codes "yes");
         some_cores = cores.0;
@@ -242,16 +274,47 @@ module _ (operands : List (List ℕ)) (values : HaveFaultlessValues operands) wh
         some_ring = ring.0;
         short_ring = ring.1;
       } in
-      (shape, record { cores = refl; history = refl; drops = spells; ring = refl; threads = refl })
+      (shape, record { cores = refl; history = refl; link = record { drops = spells; repeats = refl; delays = refl; missing = refl }; ring = refl; threads = refl })
 
-  pub settings_some : (command : Command) (name : ProgramName) → chosen operands ≡ Some name
+  -- the words choose some program, or a required operand is absent
+  abbrev SomeProgram : Type 0
+  SomeProgram = ((settings : ProgramSettings) × HasProgram operands settings) ⊎ (lacks_operand operands ≡ true)
+
+  table_by : program_in operands ≡ Some program.Table → (found : Option (List ℕ)) → given (table operand.Table).name operands ≡ found → SomeProgram
+  table_by is None absent = inr (lacks-table operands is absent)
+  table_by is (Some text) found =
+      let (rules, spells) = table-some text (values operand.Table text found) in
+      let value : value_for operand.Table operands ≡ text = rw found refl in
+      let settings : TableSettings = record {
+        table = rules;
+        flows = number_for operand.Flows operands;
+        valid = IsTable-from_rules text rules spells.spelled spells.complete;
+        some = flows_inside.0;
+        few = flows_inside.1;
+      } in
+      inl (Table settings, (is, subst (λ (t : List ℕ). tables.Spells t rules) (sym value) spells, refl))
+
+  chain_by : program_in operands ≡ Some program.Chain → (first second : Option OneName) → first_in operands ≡ first → second_in operands ≡ second → SomeProgram
+  chain_by is None second none is_second = inr (lacks-first operands values is none)
+  chain_by is (Some first) None is_first none = inr (lacks-second operands values is none)
+  chain_by is (Some first) (Some second) is_first is_second =
+      inl (Chain (made first) (made second), (is, is_first ∙ named first, is_second ∙ named second, HasNumbers-made first, HasNumbers-made second))
+
+  program_by : (found : Option ProgramName) → program_in operands ≡ found → SomeProgram
+  program_by None none = inr (lacks-program operands values none)
+  program_by (Some (program.One one)) is =
+      inl (One (made one), (is ∙ ap (λ (n : OneName). Some (program.One n)) (sym (name_of-made one)), HasNumbers-made one))
+  program_by (Some program.Chain) is = chain_by is (first_in operands) (second_in operands) refl refl
+  program_by (Some program.Table) is = table_by is (given (table operand.Table).name operands) refl
+
+  settings_by : (command : Command) (program : ProgramSettings) → HasProgram operands program
       → (settings : RunSettings) × (settings.command ≡ command) × AreChosen operands settings
-  settings_some command name is =
+  settings_by command program has_program =
       let (shape, has_shape) = shape_some in
       let hosts = number-inside operands values operand.Hosts refl refl in
       let settings : RunSettings = record {
         command = command;
-        program = made name;
+        program = program;
         shape = shape;
         start = number_for operand.Start operands;
         frames = number_for operand.Frames operands;
@@ -260,14 +323,22 @@ module _ (operands : List (List ℕ)) (values : HaveFaultlessValues operands) wh
         some_hosts = hosts.0;
         few_hosts = hosts.1;
       } in
-      (settings, refl, record { program = HasProgram-made name is; shape = has_shape; start = refl; frames = refl; hosts = refl })
+      (settings, refl, record { program = has_program; shape = has_shape; start = refl; frames = refl; hosts = refl })
+
+  pub settings_some : (command : Command)
+      → ((settings : RunSettings) × (settings.command ≡ command) × AreChosen operands settings) ⊎ (lacks_operand operands ≡ true)
+  settings_some command =
+      elim (program_by (program_in operands) refl) [
+        | inl (program, has) ↦ inl (settings_by command program has)
+        | inr lacks ↦ inr lacks
+      ]
 
 -- two shapes with the same numbers are the same
-Shape-same : (a b : Shape) → a.cores ≡ b.cores → a.history ≡ b.history → a.drops ≡ b.drops → a.ring ≡ b.ring → a.threads ≡ b.threads → a ≡ b
-Shape-same a b cores history drops ring threads = λ i. record {
+Shape-same : (a b : Shape) → a.cores ≡ b.cores → a.history ≡ b.history → a.link ≡ b.link → a.ring ≡ b.ring → a.threads ≡ b.threads → a ≡ b
+Shape-same a b cores history link ring threads = λ i. record {
   cores = cores i;
   history = history i;
-  drops = drops i;
+  link = link i;
   ring = ring i;
   threads = threads i;
   some_cores = at_least cores a.some_cores b.some_cores i;
@@ -277,10 +348,18 @@ Shape-same a b cores history drops ring threads = λ i. record {
   short_ring = at_most ring a.short_ring b.short_ring i;
 }
 
+HasLink-same : (operands : List (List ℕ)) (a b : Link) → HasLink operands a → HasLink operands b → a ≡ b
+HasLink-same operands a b of_a of_b =
+    let drops = Spells-same (value_for operand.Drop operands) a.drops b.drops of_a.drops of_b.drops in
+    let repeats = of_a.repeats ∙ sym of_b.repeats in
+    let delays = of_a.delays ∙ sym of_b.delays in
+    let missing = of_a.missing ∙ sym of_b.missing in
+    λ i. record { drops = drops i; repeats = repeats i; delays = delays i; missing = missing i }
+
 HasShape-same : (operands : List (List ℕ)) (a b : Shape) → HasShape operands a → HasShape operands b → a ≡ b
 HasShape-same operands a b of_a of_b =
     Shape-same a b (of_a.cores ∙ sym of_b.cores) (of_a.history ∙ sym of_b.history)
-    (Spells-same (value_for operand.Drop operands) a.drops b.drops of_a.drops of_b.drops) (of_a.ring ∙ sym of_b.ring)
+    (HasLink-same operands a.link b.link of_a.link of_b.link) (of_a.ring ∙ sym of_b.ring)
     (of_a.threads ∙ sym of_b.threads)
 
 RunSettings-same : (a b : RunSettings) → a.command ≡ b.command → a.program ≡ b.program → a.shape ≡ b.shape → a.start ≡ b.start

@@ -10,13 +10,15 @@ use Rattle.scr_program.specs.declared.setting.SettingError.TheVariants.{Value, R
 use Rattle.scr_program.specs.Settings.{setting_within}
 use Rattle.scr_words.specs.Limits.{most_history}
 use Rattle.scr_words.specs.declared.word_fault.WordCause.{WordCause}
+use Rattle.scr_words.specs.declared.word_fault.WordCause.TheVariants as cause
 use Rattle.scr_words.specs.declared.operand.Operand.{Operand}
 use Rattle.scr_words.specs.declared.operand.Operand.TheVariants as operand
 use Rattle.scr_words.specs.declared.operand.Form.{Form}
-use Rattle.scr_words.specs.declared.operand.Form.TheVariants.{OneProgram, Number, DropList, YesNo, ThreePorts}
+use Rattle.scr_words.specs.declared.operand.Form.TheVariants.{OneProgram, Number, DropList, YesNo, ThreePorts, FirstProgram, SecondProgram, TableText}
 use Rattle.scr_words.specs.Operands.{table, is_numeric, IsWithin}
 use Rattle.scr_words.specs.WordParts.{given}
-use Rattle.scr_words.specs.WordFaults.{refused_or, pieces_fault, drop_list_fault, setting_fault, value_fault}
+use Rattle.scr_words.specs.TextFaults.{refused_or, pieces_fault, drop_list_fault}
+use Rattle.scr_words.specs.WordFaults.{setting_fault, value_fault}
 use Rattle.scr_words.specs.WordTests.{HaveFaultlessValues}
 use Rattle.scr_words.specs.GivenSettings.{value_for, number_for, history_for}
 use Rattle.scr_words.proofs.GivenValues.{value_for-passes}
@@ -27,15 +29,15 @@ record AreRead (pieces : List (List ℕ)) (before : ℕ) : Type 0 where
   count : length ranges ≡ length pieces
   each : (i : ℕ) (d : DropRange) → i < length ranges → piece_read (before + i) (get_or pieces i []) ≡ Ok (get_or ranges i d)
 
-refused_or-none : (read : Result DropRange DropCause) (place : ℕ) (rest : Option WordCause) → refused_or read place rest ≡ None
+refused_or-none : (read : Result DropRange DropCause) (place : ℕ) (rest : Option WordCause) → refused_or cause.Drop read place rest ≡ None
     → ((range : DropRange) × (read ≡ Ok range)) × (rest ≡ None)
 refused_or-none (Ok range) place rest none = ((range, refl), none)
 refused_or-none (Err refusal) place rest none = absurd cc
 
-AreRead-from : (pieces : List (List ℕ)) (before place : ℕ) → pieces_fault before place pieces ≡ None → AreRead pieces before
+AreRead-from : (pieces : List (List ℕ)) (before place : ℕ) → pieces_fault piece_read cause.Drop before place pieces ≡ None → AreRead pieces before
 AreRead-from [] before place none = record { ranges = []; count = refl; each = λ i d below. absurd (omega arith) }
 AreRead-from (piece ∷ pieces) before place none =
-    let ((range, read), rest_none) = refused_or-none (piece_read before piece) place (pieces_fault (before + 1) (place + (length piece + 1)) pieces) none in
+    let ((range, read), rest_none) = refused_or-none (piece_read before piece) place (pieces_fault piece_read cause.Drop (before + 1) (place + (length piece + 1)) pieces) none in
     let rest = AreRead-from pieces (before + 1) (place + (length piece + 1)) rest_none in
     let more : length (range ∷ rest.ranges) ≡ suc (length rest.ranges) = refl in
     let each : (i : ℕ) (d : DropRange) → i < length (range ∷ rest.ranges)
@@ -92,6 +94,9 @@ value-inside (Number least greatest) value numeric none = setting-inside value l
 value-inside DropList value numeric none = absurd cc
 value-inside YesNo value numeric none = absurd cc
 value-inside ThreePorts value numeric none = absurd cc
+value-inside FirstProgram value numeric none = absurd cc
+value-inside SecondProgram value numeric none = absurd cc
+value-inside TableText value numeric none = absurd cc
 
 module _ (operands : List (List ℕ)) (values : HaveFaultlessValues operands) where
   pub number-inside : (operand : Operand) → IsTrue (is_numeric (table operand).form) → value_fault (table operand).form (table operand).default ≡ None

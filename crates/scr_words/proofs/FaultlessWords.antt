@@ -1,21 +1,22 @@
 -- What follows where no operand has a fault.
-use Rattle.std.proofs.Common.{◌≡◌, ◌⊎◌, inl, inr, ℕ, suc, ◌+◌, ◌<◌, List, [], ◌∷◌, length, get_or, Bool, true, false, cond, not, Option, Some, None, refl, ap, ◌∙◌, subst, arith}
+use Rattle.std.proofs.Common.{◌≡◌, ◌⊎◌, inl, inr, ℕ, suc, ◌<◌, List, [], ◌∷◌, length, get_or, Bool, true, false, cond, not, ◌||◌, Option, Some, None, refl, ap, ◌∙◌, subst, arith}
 use Rattle.std.specs.List.{find, list_any}
-use Rattle.std.specs.Prelude.{option_map, option_and_then}
+use Rattle.std.specs.Prelude.{option_map, option_and_then, is_some}
+use Rattle.std.specs.Option.{option_or}
 use Rattle.std.specs.Str.{bytes_eq}
 use Rattle.std.proofs.lemmas.Bool.{and_parts}
 use Rattle.std.proofs.lemmas.Slice.Eq.{bytes_eq-Decides}
 use Rattle.scr_words.specs.declared.word_fault.WordCause.{WordCause}
-use Rattle.scr_words.specs.declared.word_fault.WordCause.TheVariants.{NotHere, Twice, Program, Missing}
+use Rattle.scr_words.specs.declared.word_fault.WordCause.TheVariants.{NotHere, Twice, Program}
 use Rattle.scr_words.specs.declared.word_fault.WordFault.{WordFault}
 use Rattle.scr_words.specs.declared.settings.Command.{Command}
-use Rattle.scr_words.specs.declared.operand.ProgramName.{ProgramName}
+use Rattle.scr_words.specs.declared.program_name.Choice.{Choice}
+use Rattle.scr_words.specs.declared.program_name.ProgramName.TheVariants as name
 use Rattle.scr_words.specs.declared.operand.Operand.{Operand}
 use Rattle.scr_words.specs.declared.operand.Operand.TheVariants as operand
-use Rattle.scr_words.specs.declared.operand.Form.TheVariants.{OneProgram}
-use Rattle.scr_words.specs.Operands.{table, operand_named, command_named, program_named, is_taken}
-use Rattle.scr_words.specs.WordParts.{has_equals, name_in, value_in, is_named, given, chosen}
-use Rattle.scr_words.specs.WordFaults.{operand_fault, value_fault, AreFaultless, IsMissing, AreRefused}
+use Rattle.scr_words.specs.Operands.{table, operand_named, all_firsts, all_ones, command_named, one_named, program_named, is_taken}
+use Rattle.scr_words.specs.WordParts.{has_equals, name_in, value_in, is_named, is_absent, given, program_in, first_in, second_in, chosen}
+use Rattle.scr_words.specs.WordFaults.{operand_fault, name_fault, value_fault, same_fault, lacks_operand, AreFaultless, IsMissing, AreRefused}
 use Rattle.scr_words.specs.WordTests.{HaveFaultlessValues}
 
 -- a word with a name and a value
@@ -61,22 +62,31 @@ operand_named-table operand.Rate = refl
 operand_named-table operand.Burst = refl
 operand_named-table operand.Ports = refl
 operand_named-table operand.Idle = refl
+operand_named-table operand.First = refl
+operand_named-table operand.Second = refl
+operand_named-table operand.Table = refl
 
 none-past : (refused : Bool) (cause : WordCause) (rest : Option WordCause) → cond refused (Some cause) rest ≡ None → rest ≡ None
 none-past true cause rest same = absurd cc
 none-past false cause rest same = same
 
+first-none : (a b : Option WordCause) → option_or a b ≡ None → a ≡ None
+first-none None b none = refl
+first-none (Some cause) b none = absurd cc
+
 -- an operand without a fault has a value without one
-value_fault-none : (command : Command) (program : Option ProgramName) (before : List (List ℕ)) (word : List ℕ) (operand : Operand)
-    → has_equals word ≡ true → operand_named (name_in word) ≡ Some operand → operand_fault command program before word ≡ None
+value_fault-none : (command : Command) (choice : Choice) (before : List (List ℕ)) (word : List ℕ) (operand : Operand)
+    → has_equals word ≡ true → operand_named (name_in word) ≡ Some operand → operand_fault command choice before word ≡ None
     → value_fault (table operand).form (value_in word) ≡ None
 unfolding operand_fault
-value_fault-none command program before word operand has known faultless =
+value_fault-none command choice before word operand has known faultless =
     let value = value_fault (table operand).form (value_in word) in
+    let tested = option_or value (same_fault before operand (value_in word)) in
     let again = list_any (is_named (name_in word)) before in
-    let here : cond (not (is_taken command program (table operand).taker)) (Some NotHere) (cond again (Some Twice) value) ≡ None =
+    let here : cond (not (is_taken command choice (table operand).taker)) (Some NotHere) (cond again (Some Twice) tested) ≡ None =
     rw (has, known) at faultless in
-    none-past again Twice value (none-past (not (is_taken command program (table operand).taker)) NotHere (cond again (Some Twice) value) here)
+    first-none value (same_fault before operand (value_in word))
+    (none-past again Twice tested (none-past (not (is_taken command choice (table operand).taker)) NotHere (cond again (Some Twice) tested) here))
 
 pub HaveFaultlessValues-from : (command : Command) (operands : List (List ℕ)) → AreFaultless command operands → HaveFaultlessValues operands
 HaveFaultlessValues-from command operands faultless = λ operand value found.
@@ -88,23 +98,42 @@ HaveFaultlessValues-from command operands faultless = λ operand value found.
     subst (λ (v : List ℕ). value_fault (table operand).form v ≡ None) at.value_is
     (value_fault-none command (chosen operands) _ word operand named.0 known (faultless at.place at.within))
 
--- where each given program is one of the five, and none is chosen, none is given
-given-none : (found : Option (List ℕ)) → ((value : List ℕ) → found ≡ Some value → value_fault OneProgram value ≡ None)
-    → option_and_then program_named found ≡ None → found ≡ None
-given-none None passes none = refl
-given-none (Some value) passes none =
-    let fault : value_fault OneProgram value ≡ Some Program = rw none refl in
-    let passed : value_fault OneProgram value ≡ None = passes value refl in
+-- where a value that is given is a name, and none is named, none is given
+given-none : {A : Type 0} (named : List ℕ → Option A) (found : Option (List ℕ))
+    → ((value : List ℕ) → found ≡ Some value → name_fault (is_some (named value)) ≡ None)
+    → option_and_then named found ≡ None → found ≡ None
+given-none named None passes none = refl
+given-none named (Some value) passes none =
+    let fault : name_fault (is_some (named value)) ≡ Some Program = rw none refl in
+    let passed : name_fault (is_some (named value)) ≡ None = passes value refl in
     absurd cc
 
-pub IsMissing-from : (command : Command) (operands : List (List ℕ)) (fault : WordFault) → AreFaultless command operands → chosen operands ≡ None
-    → fault.cause ≡ Missing → fault.word ≡ length operands + 2 → IsMissing command operands fault
-IsMissing-from command operands fault faultless none cause number = record {
-  faultless = faultless;
-  none = given-none (given (table operand.Program).name operands) (HaveFaultlessValues-from command operands faultless operand.Program) none;
-  cause = cause;
-  number = number;
-}
+or-true : (a : Bool) → (a || true) ≡ true
+or-true true = refl
+or-true false = refl
+
+-- which required operand is absent
+module _ (operands : List (List ℕ)) where
+  pub lacks-program : HaveFaultlessValues operands → program_in operands ≡ None → lacks_operand operands ≡ true
+  lacks-program values none =
+      let absent : given (table operand.Program).name operands ≡ None =
+      given-none program_named (given (table operand.Program).name operands) (values operand.Program) none in
+      rw (none, absent) refl
+
+  pub lacks-table : program_in operands ≡ Some name.Table → given (table operand.Table).name operands ≡ None → lacks_operand operands ≡ true
+  lacks-table is absent = rw (is, absent) (or-true (is_absent operands operand.Program))
+
+  pub lacks-first : HaveFaultlessValues operands → program_in operands ≡ Some name.Chain → first_in operands ≡ None → lacks_operand operands ≡ true
+  lacks-first values is none =
+      let absent : given (table operand.First).name operands ≡ None =
+      given-none (one_named all_firsts) (given (table operand.First).name operands) (values operand.First) none in
+      rw (is, absent) (or-true (is_absent operands operand.Program))
+
+  pub lacks-second : HaveFaultlessValues operands → program_in operands ≡ Some name.Chain → second_in operands ≡ None → lacks_operand operands ≡ true
+  lacks-second values is none =
+      let absent : given (table operand.Second).name operands ≡ None =
+      given-none (one_named all_ones) (given (table operand.Second).name operands) (values operand.Second) none in
+      rw (is, absent) (rw (or-true (is_absent operands operand.First)) (or-true (is_absent operands operand.Program)))
 
 pub AreRefused-missing : (first : List ℕ) (operands : List (List ℕ)) (command : Command) (fault : WordFault) → command_named first ≡ Some command
     → IsMissing command operands fault → AreRefused (first ∷ operands) fault

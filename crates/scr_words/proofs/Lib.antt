@@ -1,5 +1,5 @@
 pub mod GivenValues
-pub mod DropListFaults
+pub mod TextFaults
 pub mod OperandFaults
 pub mod FaultlessWords
 pub mod FaultlessValues

@@ -1,22 +1,27 @@
 -- Words are accepted or refused, never both, and are refused with one fault.
-use Rattle.std.proofs.Common.{Result, Ok, Err, ◌≡◌, ◌⊎◌, inl, inr, ℕ, ◌<◌, List, [], ◌∷◌, Option, Some, None, MatchOption, sym, ap, ◌∙◌, arith}
-use Rattle.std.specs.Prelude.{option_and_then}
+use Rattle.std.proofs.Common.{Result, Ok, Err, ◌≡◌, ◌⊎◌, inl, inr, ℕ, ◌<◌, List, [], ◌∷◌, Bool, true, false, Option, Some, None, MatchOption, refl, sym, ap, ◌∙◌, arith}
+use Rattle.std.specs.Prelude.{option_and_then, is_none, unwrap_or}
 use Rattle.std.proofs.lemmas.Option.{MatchOption-at_some}
+use Rattle.scr_tables.specs.Spelling as tables
+use Rattle.scr_tables.specs.declared.rule.Rule.{Rule}
+use Rattle.scr_tables.specs.declared.reading.TableCause.TheVariants.{Empty}
 use Rattle.scr_words.specs.declared.word_fault.WordCause.{WordCause}
+use Rattle.scr_words.specs.declared.word_fault.WordCause.TheVariants.{Table}
 use Rattle.scr_words.specs.declared.word_fault.WordFault.{WordFault}
 use Rattle.scr_words.specs.declared.settings.Command.{Command}
 use Rattle.scr_words.specs.declared.settings.ProgramSettings.{ProgramSettings}
-use Rattle.scr_words.specs.declared.settings.ProgramSettings.TheVariants.{Ddos, Heavy, Bucket, Knock, Conn}
+use Rattle.scr_words.specs.declared.settings.ProgramSettings.TheVariants as settings
 use Rattle.scr_words.specs.declared.settings.RunSettings.{RunSettings}
-use Rattle.scr_words.specs.declared.operand.ProgramName.{ProgramName}
 use Rattle.scr_words.specs.declared.operand.Operand.TheVariants as operand
-use Rattle.scr_words.specs.Operands.{command_named, program_named, table}
+use Rattle.scr_words.specs.Operands.{all_firsts, all_ones, command_named, one_named, program_named, table}
 use Rattle.scr_words.specs.WordParts.{given}
-use Rattle.scr_words.specs.WordFaults.{fault_at, AreFaultless, IsFirstFault, IsMissing, AreRefused}
+use Rattle.scr_words.specs.WordFaults.{fault_at, lacks_operand, AreFaultless, IsFirstFault, IsMissing, AreRefused}
+use Rattle.scr_words.specs.TextFaults.{table_fault}
 use Rattle.scr_words.specs.GivenSettings.{HasProgram, AreAccepted}
 use Rattle.scr_words.specs.Answers.{IsAnswer}
 use Rattle.scr_words.proofs.FaultlessWords.{HaveFaultlessValues-from}
 use Rattle.scr_words.proofs.ChosenSettings.{AreChosen-same}
+use Rattle.scr_words.proofs.TextFaults.{table_fault-none, table_fault-empty}
 
 -- two faults that are one
 abbrev IsSameFault : WordFault → WordFault → Type 0
@@ -72,22 +77,40 @@ AreRefused-same (first ∷ operands) a b one other =
     (ap (λ (f : WordFault). f.word) same, ap (λ (f : WordFault). f.cause) same))
     (λ command. refused-same command operands a b)
 
--- a chosen program was given
-chosen-given : (found : Option (List ℕ)) (program : ProgramName) → option_and_then program_named found ≡ Some program → found ≡ None → ⊥
-chosen-given None program is none = cc
-chosen-given (Some name) program is none = cc
+-- what is named was given
+named-given : {A : Type 0} (named : List ℕ → Option A) (found : Option (List ℕ)) (name : A) → option_and_then named found ≡ Some name → is_none found ≡ false
+named-given named None name is = absurd cc
+named-given named (Some value) name is = refl
 
-program-given : (operands : List (List ℕ)) (settings : ProgramSettings) → HasProgram operands settings → given (table operand.Program).name operands ≡ None → ⊥
-program-given operands (Ddos settings) has none = chosen-given _ _ has.0 none
-program-given operands (Heavy settings) has none = chosen-given _ _ has.0 none
-program-given operands (Bucket settings) has none = chosen-given _ _ has.0 none
-program-given operands (Knock settings) has none = chosen-given _ _ has.0 none
-program-given operands (Conn settings) has none = chosen-given _ _ has.0 none
+-- a table that is spelled was given, since no text but one that is given spells rules
+table-given : (found : Option (List ℕ)) (rules : List Rule) → tables.Spells (unwrap_or found []) rules → is_none found ≡ false
+table-given None rules spells = absurd (some-none (Table Empty 0) (table_fault []) table_fault-empty (table_fault-none [] rules spells))
+  where
+    some-none : (a : WordCause) (x : Option WordCause) → x ≡ Some a → x ≡ None → ⊥
+    some-none a x is none = cc
+table-given (Some text) rules spells = refl
+
+-- accepted words lack no operand
+lacks-none : (operands : List (List ℕ)) (settings : ProgramSettings) → HasProgram operands settings → lacks_operand operands ≡ false
+lacks-none operands (settings.One one) has = rw (has.0, named-given program_named (given (table operand.Program).name operands) _ has.0) refl
+lacks-none operands (settings.Chain first second) has =
+    let program = named-given program_named (given (table operand.Program).name operands) _ has.0 in
+    let one = named-given (one_named all_firsts) (given (table operand.First).name operands) _ has.1 in
+    let other = named-given (one_named all_ones) (given (table operand.Second).name operands) _ has.2 in
+    rw (has.0, program, one, other) refl
+lacks-none operands (settings.Table rules) has =
+    let program = named-given program_named (given (table operand.Program).name operands) _ has.0 in
+    let text = table-given (given (table operand.Table).name operands) rules.table has.1 in
+    rw (has.0, program, text) refl
+
+true-false : (b : Bool) → b ≡ true → b ≡ false → ⊥
+true-false b is isnt = cc
 
 not_refused : (command : Command) (operands : List (List ℕ)) (settings : ProgramSettings) (fault : WordFault) → AreFaultless command operands
     → HasProgram operands settings → IsFirstFault command operands fault ⊎ IsMissing command operands fault → ⊥
 not_refused command operands settings fault faultless has (inl first) = not_first command operands fault faultless first
-not_refused command operands settings fault faultless has (inr missing) = program-given operands settings has missing.none
+not_refused command operands settings fault faultless has (inr missing) =
+    true-false (lacks_operand operands) missing.lacks (lacks-none operands settings has)
 
 Some-command : (a b : Command) (x : Option Command) → x ≡ Some a → x ≡ Some b → a ≡ b
 Some-command a b x is_a is_b = cc

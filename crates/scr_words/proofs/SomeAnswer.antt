@@ -5,12 +5,10 @@ use Rattle.scr_words.specs.declared.word_fault.WordCause.TheVariants as cause
 use Rattle.scr_words.specs.declared.word_fault.WordFault.{WordFault}
 use Rattle.scr_words.specs.declared.settings.Command.{Command}
 use Rattle.scr_words.specs.declared.settings.RunSettings.{RunSettings}
-use Rattle.scr_words.specs.declared.operand.ProgramName.{ProgramName}
 use Rattle.scr_words.specs.Operands.{command_named}
-use Rattle.scr_words.specs.WordParts.{chosen}
-use Rattle.scr_words.specs.WordFaults.{fault_at, AreFaultless, IsFirstFault, AreRefused}
+use Rattle.scr_words.specs.WordFaults.{fault_at, AreFaultless, IsFirstFault, IsMissing, AreRefused}
 use Rattle.scr_words.specs.Answers.{IsAnswer}
-use Rattle.scr_words.proofs.FaultlessWords.{HaveFaultlessValues-from, IsMissing-from, AreRefused-missing}
+use Rattle.scr_words.proofs.FaultlessWords.{HaveFaultlessValues-from, AreRefused-missing}
 use Rattle.scr_words.proofs.ChosenSettings.{settings_some}
 
 module _ (command : Command) (operands : List (List ℕ)) where
@@ -44,20 +42,21 @@ module _ (first : List ℕ) (operands : List (List ℕ)) where
       → IsFirstFault command operands fault → AreRefused (first ∷ operands) fault
   AreRefused-first command fault named is = rw named (inl is)
 
-  faultless-answer : (command : Command) → command_named first ≡ Some command → AreFaultless command operands
-      → (found : Option ProgramName) → chosen operands ≡ found → HasAnswer (first ∷ operands)
-  faultless-answer command named faultless None none =
-      let fault : WordFault = record { word = length operands + 2; cause = cause.Missing } in
-      (Err fault, AreRefused-missing first operands command fault named (IsMissing-from command operands fault faultless none refl refl))
-  faultless-answer command named faultless (Some name) is =
-      let (settings, same, are) = settings_some operands (HaveFaultlessValues-from command operands faultless) command name is in
-      (Ok settings, record { command = rw same named; faultless = rw same faultless; chosen_are = are })
+  faultless-answer : (command : Command) → command_named first ≡ Some command → AreFaultless command operands → HasAnswer (first ∷ operands)
+  faultless-answer command named faultless =
+      elim (settings_some operands (HaveFaultlessValues-from command operands faultless) command) [
+        | inl (settings, same, are) ↦ (Ok settings, record { command = rw same named; faultless = rw same faultless; chosen_are = are })
+        | inr lacks ↦ (
+            let fault : WordFault = record { word = length operands + 2; cause = cause.Missing } in
+            let missing : IsMissing command operands fault = record { faultless = faultless; lacks = lacks; cause = refl; number = refl } in
+            (Err fault, AreRefused-missing first operands command fault named missing))
+      ]
 
   answer-by : (found : Option Command) → command_named first ≡ found → HasAnswer (first ∷ operands)
   answer-by None none = (Err (record { word = 1; cause = cause.Command }), rw none refl)
   answer-by (Some command) named =
       elim (first-upto command operands (length operands) (omega arith)) [
-        | inl faultless ↦ faultless-answer command named faultless (chosen operands) refl
+        | inl faultless ↦ faultless-answer command named faultless
         | inr (fault, is) ↦ (Err fault, AreRefused-first command fault named is)
       ]
 

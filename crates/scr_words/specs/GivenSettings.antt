@@ -3,18 +3,24 @@ use Rattle.std.specs.Prelude.{◌≡◌, ℕ, ◌-◌, List, [], ◌∷◌, Some
 use Rattle.std.specs.Option.{option_map_or}
 use Rattle.std.specs.Str.{bytes_eq}
 use Rattle.scr_base.specs.Numbers.{number_of}
+use Rattle.scr_plan.specs.Link.{Link}
 use Rattle.scr_plan.specs.Spelling.{Spells}
 use Rattle.scr_knock.specs.Ports.{ports_in}
+use Rattle.scr_tables.specs.Spelling as tables
 use Rattle.scr_words.specs.declared.settings.ProgramSettings.{ProgramSettings}
-use Rattle.scr_words.specs.declared.settings.ProgramSettings.TheVariants.{Ddos, Heavy, Bucket, Knock, Conn}
+use Rattle.scr_words.specs.declared.settings.ProgramSettings.TheVariants.{One, Chain, Table}
+use Rattle.scr_words.specs.declared.settings.OneSettings.{OneSettings}
+use Rattle.scr_words.specs.declared.settings.OneSettings.TheVariants.{Ddos, Heavy, Bucket, Knock, Conn}
 use Rattle.scr_words.specs.declared.settings.RunSettings.{RunSettings}
 use Rattle.scr_words.specs.declared.settings.Shape.{Shape}
 use Rattle.scr_knock.specs.declared.settings.KnockSettings.{KnockSettings}
-use Rattle.scr_words.specs.declared.operand.ProgramName.TheVariants as program
+use Rattle.scr_words.specs.declared.program_name.OneName.{OneName}
+use Rattle.scr_words.specs.declared.program_name.OneName.TheVariants as name
+use Rattle.scr_words.specs.declared.program_name.ProgramName.TheVariants as program
 use Rattle.scr_words.specs.declared.operand.Operand.{Operand}
 use Rattle.scr_words.specs.declared.operand.Operand.TheVariants as operand
 use Rattle.scr_words.specs.Operands.{table, command_named}
-use Rattle.scr_words.specs.WordParts.{given, chosen}
+use Rattle.scr_words.specs.WordParts.{given, program_in, first_in, second_in}
 use Rattle.scr_words.specs.WordFaults.{AreFaultless}
 
 -- the value of an operand: that of its word, or the default
@@ -35,30 +41,52 @@ HasPorts text settings = MatchResult (ports_in text)
     (λ ports. (settings.first ≡ ports.0) × (settings.second ≡ ports.1) × (settings.third ≡ ports.2))
     (λ refusal. ⊥)
 
--- the chosen program, with its numbers
-abbrev pub HasProgram : List (List ℕ) → ProgramSettings → Type 0
-HasProgram operands (Ddos settings) = (chosen operands ≡ Some program.Ddos)
-    × (settings.threshold ≡ number_for operand.Threshold operands)
-    × (settings.flows ≡ number_for operand.Flows operands)
-HasProgram operands (Heavy settings) = (chosen operands ≡ Some program.Heavy)
-    × (settings.bytes ≡ number_for operand.Bytes operands)
-    × (settings.flows ≡ number_for operand.Flows operands)
-HasProgram operands (Bucket settings) = (chosen operands ≡ Some program.Bucket)
-    × (settings.rate ≡ number_for operand.Rate operands)
+-- which program settings are for
+abbrev pub name_of : OneSettings → OneName
+name_of (Ddos settings) = name.Ddos
+name_of (Heavy settings) = name.Heavy
+name_of (Bucket settings) = name.Bucket
+name_of (Knock settings) = name.Knock
+name_of (Conn settings) = name.Conn
+
+-- its numbers
+abbrev pub HasNumbers : List (List ℕ) → OneSettings → Type 0
+HasNumbers operands (Ddos settings) =
+    (settings.threshold ≡ number_for operand.Threshold operands) × (settings.flows ≡ number_for operand.Flows operands)
+HasNumbers operands (Heavy settings) =
+    (settings.bytes ≡ number_for operand.Bytes operands) × (settings.flows ≡ number_for operand.Flows operands)
+HasNumbers operands (Bucket settings) = (settings.rate ≡ number_for operand.Rate operands)
     × (settings.burst ≡ number_for operand.Burst operands)
     × (settings.flows ≡ number_for operand.Flows operands)
-HasProgram operands (Knock settings) = (chosen operands ≡ Some program.Knock)
-    × HasPorts (value_for operand.Ports operands) settings
+HasNumbers operands (Knock settings) =
+    HasPorts (value_for operand.Ports operands) settings × (settings.flows ≡ number_for operand.Flows operands)
+HasNumbers operands (Conn settings) =
+    (settings.idle ≡ number_for operand.Idle operands) × (settings.flows ≡ number_for operand.Flows operands)
+
+-- the chosen program, or both of a chain, with its numbers or its rules
+abbrev pub HasProgram : List (List ℕ) → ProgramSettings → Type 0
+HasProgram operands (One settings) = (program_in operands ≡ Some (program.One (name_of settings))) × HasNumbers operands settings
+HasProgram operands (Chain first second) = (program_in operands ≡ Some program.Chain)
+    × (first_in operands ≡ Some (name_of first))
+    × (second_in operands ≡ Some (name_of second))
+    × HasNumbers operands first
+    × HasNumbers operands second
+HasProgram operands (Table settings) = (program_in operands ≡ Some program.Table)
+    × tables.Spells (value_for operand.Table operands) settings.table
     × (settings.flows ≡ number_for operand.Flows operands)
-HasProgram operands (Conn settings) = (chosen operands ≡ Some program.Conn)
-    × (settings.idle ≡ number_for operand.Idle operands)
-    × (settings.flows ≡ number_for operand.Flows operands)
+
+-- what lies between the sequencer and the cores
+pub record HasLink (operands : List (List ℕ)) (link : Link) : Type 0 where
+  pub drops : Spells (value_for operand.Drop operands) link.drops
+  pub repeats : link.repeats ≡ []
+  pub delays : link.delays ≡ []
+  pub missing : link.missing ≡ []
 
 -- how frames go to cores
 pub record HasShape (operands : List (List ℕ)) (shape : Shape) : Type 0 where
   pub cores : shape.cores ≡ number_for operand.Cores operands
   pub history : shape.history ≡ history_for operands
-  pub drops : Spells (value_for operand.Drop operands) shape.drops
+  pub link : HasLink operands shape.link
   pub ring : shape.ring ≡ number_for operand.Ring operands
   pub threads : shape.threads ≡ bytes_eq (value_for operand.Threads operands) (codes "yes")
 

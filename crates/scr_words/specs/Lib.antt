@@ -1,6 +1,7 @@
 pub mod Limits
 pub mod Operands
 pub mod WordParts
+pub mod TextFaults
 pub mod WordFaults
 pub mod GivenSettings
 pub mod WordLines

@@ -1,20 +1,23 @@
 -- The operands of a command line: their names, who takes them, what their values are, and which value stands where the
 -- words give none.
-use Rattle.std.specs.Prelude.{ℕ, ◌≤◌, ⊤, Bool, true, false, List, [], ◌∷◌, Option, codes}
+use Rattle.std.specs.Prelude.{ℕ, ◌≤◌, ⊤, Bool, true, false, ◌||◌, List, [], ◌∷◌, Option, Some, None, codes}
 use Rattle.std.specs.List.{find}
 use Rattle.std.specs.Option.{option_map_or}
 use Rattle.std.specs.Str.{bytes_eq}
 use Rattle.scr_words.specs.Limits.{most_flows, most_cores, most_history, most_ring, most_frames, most_hosts}
 use Rattle.scr_words.specs.declared.settings.Command.{Command}
 use Rattle.scr_words.specs.declared.settings.Command.TheVariants.{Run, Plain, Load}
-use Rattle.scr_words.specs.declared.operand.ProgramName.{ProgramName}
-use Rattle.scr_words.specs.declared.operand.ProgramName.TheVariants.{Ddos, Heavy, Bucket, Knock, Conn}
+use Rattle.scr_words.specs.declared.program_name.OneName.{OneName}
+use Rattle.scr_words.specs.declared.program_name.OneName.TheVariants.{Ddos, Heavy, Bucket, Knock, Conn}
+use Rattle.scr_words.specs.declared.program_name.ProgramName.{ProgramName}
+use Rattle.scr_words.specs.declared.program_name.ProgramName.TheVariants as program
+use Rattle.scr_words.specs.declared.program_name.Choice.{Choice}
 use Rattle.scr_words.specs.declared.operand.Operand.{Operand}
 use Rattle.scr_words.specs.declared.operand.Operand.TheVariants as operand
 use Rattle.scr_words.specs.declared.operand.Taker.{Taker}
 use Rattle.scr_words.specs.declared.operand.Taker.TheVariants as taker
 use Rattle.scr_words.specs.declared.operand.Form.{Form}
-use Rattle.scr_words.specs.declared.operand.Form.TheVariants.{OneProgram, Number, DropList, YesNo, ThreePorts}
+use Rattle.scr_words.specs.declared.operand.Form.TheVariants.{OneProgram, Number, DropList, YesNo, ThreePorts, FirstProgram, SecondProgram, TableText}
 
 -- the names of the commands and of the programs
 abbrev pub command_name : Command → List ℕ
@@ -22,22 +25,38 @@ command_name Run = codes "run"
 command_name Plain = codes "plain"
 command_name Load = codes "load"
 
+abbrev pub one_name : OneName → List ℕ
+one_name Ddos = codes "ddos"
+one_name Heavy = codes "heavy"
+one_name Bucket = codes "bucket"
+one_name Knock = codes "knock"
+one_name Conn = codes "conn"
+
 abbrev pub program_name : ProgramName → List ℕ
-program_name Ddos = codes "ddos"
-program_name Heavy = codes "heavy"
-program_name Bucket = codes "bucket"
-program_name Knock = codes "knock"
-program_name Conn = codes "conn"
+program_name (program.One one) = one_name one
+program_name program.Chain = codes "chain"
+program_name program.Table = codes "table"
 
 abbrev pub all_commands : List Command
 all_commands = Run ∷ Plain ∷ Load ∷ []
 
-abbrev pub all_programs : List ProgramName
-all_programs = Ddos ∷ Heavy ∷ Bucket ∷ Knock ∷ Conn ∷ []
+abbrev pub all_ones : List OneName
+all_ones = Ddos ∷ Heavy ∷ Bucket ∷ Knock ∷ Conn ∷ []
 
--- the command or the program with a name
+-- those that may be the first of a chain
+abbrev pub all_firsts : List OneName
+all_firsts = Ddos ∷ Heavy ∷ Bucket ∷ Knock ∷ []
+
+abbrev pub all_programs : List ProgramName
+all_programs = program.One Ddos ∷ program.One Heavy ∷ program.One Bucket ∷ program.One Knock ∷ program.One Conn
+    ∷ program.Chain ∷ program.Table ∷ []
+
+-- the command, the one among some of the five, or the program with a name
 unfoldable pub command_named : List ℕ → Option Command
 command_named name = find (λ command. bytes_eq (command_name command) name) all_commands
+
+unfoldable pub one_named : List OneName → List ℕ → Option OneName
+one_named ones name = find (λ one. bytes_eq (one_name one) name) ones
 
 unfoldable pub program_named : List ℕ → Option ProgramName
 program_named name = find (λ program. bytes_eq (program_name program) name) all_programs
@@ -52,7 +71,10 @@ pub record Line : Type 0 where
 abbrev pub line : List ℕ → Taker → Form → List ℕ → Line
 line name taker form default = record { name = name; taker = taker; form = form; default = default }
 
--- The table. A program has no default, and the default history is one less than the cores.
+abbrev pub taker_of : OneName → Taker
+taker_of one = taker.Program (program.One one)
+
+-- The table. Programs and a table have no default, and the default history is one less than the cores.
 abbrev pub table : Operand → Line
 table operand.Program = line (codes "program") taker.Every OneProgram []
 table operand.Flows = line (codes "flows") taker.Every (Number 1 most_flows) (codes "4096")
@@ -64,18 +86,21 @@ table operand.Threads = line (codes "threads") taker.WithCores YesNo (codes "yes
 table operand.Start = line (codes "start") taker.LoadAlone (Number 0 18446744073709551615) (codes "0")
 table operand.Frames = line (codes "frames") taker.LoadAlone (Number 0 most_frames) (codes "1000")
 table operand.Hosts = line (codes "hosts") taker.LoadAlone (Number 1 most_hosts) (codes "16")
-table operand.Threshold = line (codes "threshold") (taker.Program Ddos) (Number 0 4294967295) (codes "1000")
-table operand.Bytes = line (codes "bytes") (taker.Program Heavy) (Number 1 1000000000000) (codes "1000000")
-table operand.Rate = line (codes "rate") (taker.Program Bucket) (Number 0 1000000000) (codes "1000")
-table operand.Burst = line (codes "burst") (taker.Program Bucket) (Number 1 1000000000) (codes "100")
-table operand.Ports = line (codes "ports") (taker.Program Knock) ThreePorts (codes "7000,8000,9000")
-table operand.Idle = line (codes "idle") (taker.Program Conn) (Number 1 10000000000000) (codes "60000000")
+table operand.Threshold = line (codes "threshold") (taker_of Ddos) (Number 0 4294967295) (codes "1000")
+table operand.Bytes = line (codes "bytes") (taker_of Heavy) (Number 1 1000000000000) (codes "1000000")
+table operand.Rate = line (codes "rate") (taker_of Bucket) (Number 0 1000000000) (codes "1000")
+table operand.Burst = line (codes "burst") (taker_of Bucket) (Number 1 1000000000) (codes "100")
+table operand.Ports = line (codes "ports") (taker_of Knock) ThreePorts (codes "7000,8000,9000")
+table operand.Idle = line (codes "idle") (taker_of Conn) (Number 1 10000000000000) (codes "60000000")
+table operand.First = line (codes "first") (taker.Program program.Chain) FirstProgram []
+table operand.Second = line (codes "second") (taker.Program program.Chain) SecondProgram []
+table operand.Table = line (codes "table") (taker.Program program.Table) TableText []
 
 abbrev pub all_operands : List Operand
 all_operands =
     operand.Program ∷ operand.Flows ∷ operand.Cores ∷ operand.History ∷ operand.Drop ∷ operand.Ring ∷ operand.Threads
     ∷ operand.Start ∷ operand.Frames ∷ operand.Hosts ∷ operand.Threshold ∷ operand.Bytes ∷ operand.Rate ∷ operand.Burst
-    ∷ operand.Ports ∷ operand.Idle ∷ []
+    ∷ operand.Ports ∷ operand.Idle ∷ operand.First ∷ operand.Second ∷ operand.Table ∷ []
 
 -- the operand with a name
 unfoldable pub operand_named : List ℕ → Option Operand
@@ -92,7 +117,7 @@ makes_load Run = false
 makes_load Plain = false
 makes_load Load = true
 
-abbrev pub is_same : ProgramName → ProgramName → Bool
+abbrev pub is_same : OneName → OneName → Bool
 is_same Ddos Ddos = true
 is_same Heavy Heavy = true
 is_same Bucket Bucket = true
@@ -100,13 +125,27 @@ is_same Knock Knock = true
 is_same Conn Conn = true
 is_same _ _ = false
 
--- Whether an operand with this taker is taken beside this command and the chosen program. Where no program is chosen,
--- the operands of each of the five are.
-abbrev pub is_taken : Command → Option ProgramName → Taker → Bool
-is_taken command chosen taker.Every = true
-is_taken command chosen taker.WithCores = runs_cores command
-is_taken command chosen taker.LoadAlone = makes_load command
-is_taken command chosen (taker.Program program) = option_map_or (is_same program) chosen true
+-- whether a chain of these two takes the operands of one of the five; where one of the two isn't known, it takes each
+abbrev pub is_in_chain : Option OneName → Option OneName → OneName → Bool
+is_in_chain (Some first) (Some second) one = is_same first one || is_same second one
+is_in_chain (Some first) None one = true
+is_in_chain None second one = true
+
+-- whether a chosen program takes the operands of another one
+abbrev pub takes_those_of : Choice → ProgramName → ProgramName → Bool
+takes_those_of choice (program.One chosen) (program.One one) = is_same chosen one
+takes_those_of choice program.Chain (program.One one) = is_in_chain choice.first choice.second one
+takes_those_of choice program.Chain program.Chain = true
+takes_those_of choice program.Table program.Table = true
+takes_those_of choice chosen other = false
+
+-- Whether an operand with this taker is taken beside this command and what the words choose. Where no program is chosen,
+-- the operands of each are.
+abbrev pub is_taken : Command → Choice → Taker → Bool
+is_taken command choice taker.Every = true
+is_taken command choice taker.WithCores = runs_cores command
+is_taken command choice taker.LoadAlone = makes_load command
+is_taken command choice (taker.Program program) = option_map_or (λ chosen. takes_those_of choice chosen program) choice.program true
 
 -- a number's form has its ends in order
 abbrev pub IsOrdered : Form → Type 0
@@ -121,3 +160,9 @@ is_numeric _ = false
 abbrev pub IsWithin : Form → ℕ → Type 0
 IsWithin (Number least greatest) number = (least ≤ number) × (number ≤ greatest)
 IsWithin _ number = ⊥
+
+-- the operands that words can't do without, by the program that they choose
+abbrev pub required : Option ProgramName → List Operand
+required (Some program.Chain) = operand.Program ∷ operand.First ∷ operand.Second ∷ []
+required (Some program.Table) = operand.Program ∷ operand.Table ∷ []
+required _ = operand.Program ∷ []

@@ -1,12 +1,9 @@
 -- Why the words of a command line are refused. Words are numbered from 1: the first is the command, and each further one
 -- is an operand. A place counts the operands from 0, so the operand at place i is word i + 2.
-use Rattle.std.specs.Prelude.{◌≡◌, ◌⊎◌, ℕ, ◌+◌, ◌<◌, ◌||◌, not, List, [], ◌∷◌, length, take, Option, Some, None, MatchOption, Result, Ok, Err, is_some, codes, if◌then◌else◌}
+use Rattle.std.specs.Prelude.{◌≡◌, ◌⊎◌, ℕ, ◌+◌, ◌<◌, Bool, true, false, ◌||◌, not, List, [], ◌∷◌, length, take, Option, Some, None, MatchOption, Result, Ok, Err, is_some, codes, if◌then◌else◌}
 use Rattle.std.specs.List.{list_any, slice_index_or}
-use Rattle.std.specs.Option.{option_map_or}
+use Rattle.std.specs.Option.{option_map_or, option_or}
 use Rattle.std.specs.Str.{bytes_eq}
-use Rattle.scr_plan.specs.Spelling.{pieces_of, piece_read}
-use Rattle.scr_plan.specs.declared.drops.DropRange.{DropRange}
-use Rattle.scr_plan.specs.declared.reading.DropCause.{DropCause}
 use Rattle.scr_program.specs.declared.setting.SettingError.{SettingError}
 use Rattle.scr_program.specs.declared.setting.SettingError.TheVariants as setting
 use Rattle.scr_program.specs.Settings.{setting_within}
@@ -15,28 +12,14 @@ use Rattle.scr_words.specs.declared.word_fault.WordCause.{WordCause}
 use Rattle.scr_words.specs.declared.word_fault.WordCause.TheVariants as cause
 use Rattle.scr_words.specs.declared.word_fault.WordFault.{WordFault}
 use Rattle.scr_words.specs.declared.settings.Command.{Command}
-use Rattle.scr_words.specs.declared.operand.ProgramName.{ProgramName}
+use Rattle.scr_words.specs.declared.program_name.Choice.{Choice}
 use Rattle.scr_words.specs.declared.operand.Operand.{Operand}
 use Rattle.scr_words.specs.declared.operand.Operand.TheVariants as operand
 use Rattle.scr_words.specs.declared.operand.Form.{Form}
-use Rattle.scr_words.specs.declared.operand.Form.TheVariants.{OneProgram, Number, DropList, YesNo, ThreePorts}
-use Rattle.scr_words.specs.Operands.{table, operand_named, command_named, program_named, is_taken}
-use Rattle.scr_words.specs.WordParts.{has_equals, name_in, value_in, is_named, given, chosen}
-
--- The fault of the pieces of a drop list, behind so many pieces and bytes: the first that is refused, with its cause and
--- its place.
-abbrev pub refused_or : Result DropRange DropCause → ℕ → Option WordCause → Option WordCause
-refused_or (Ok range) place rest = rest
-refused_or (Err refusal) place rest = Some (cause.Drop refusal place)
-
-abbrev pub pieces_fault : (before place : ℕ) → List (List ℕ) → Option WordCause
-pieces_fault before place [] = None
-pieces_fault before place (piece ∷ pieces) =
-    refused_or (piece_read before piece) place (pieces_fault (before + 1) (place + (length piece + 1)) pieces)
-
-unfoldable pub drop_list_fault : List ℕ → Option WordCause
-drop_list_fault [] = None
-drop_list_fault (byte ∷ text) = pieces_fault 0 0 (pieces_of (byte ∷ text))
+use Rattle.scr_words.specs.declared.operand.Form.TheVariants.{OneProgram, Number, DropList, YesNo, ThreePorts, FirstProgram, SecondProgram, TableText}
+use Rattle.scr_words.specs.Operands.{all_firsts, all_ones, table, operand_named, command_named, one_named, program_named, is_taken, required}
+use Rattle.scr_words.specs.WordParts.{has_equals, name_in, value_in, is_named, given, is_absent, program_in, chosen}
+use Rattle.scr_words.specs.TextFaults.{drop_list_fault, table_fault}
 
 -- the fault of a value that is read as a setting is
 abbrev pub setting_cause : SettingError → WordCause
@@ -48,30 +31,51 @@ abbrev pub setting_fault : {A : Type 0} → Result A SettingError → Option Wor
 setting_fault (Ok value) = None
 setting_fault (Err error) = Some (setting_cause error)
 
+-- the fault of a value that must be a name
+abbrev pub name_fault : Bool → Option WordCause
+name_fault is_name = if is_name then None else Some cause.Program
+
 -- the fault of a value, by its form
 abbrev pub value_fault : Form → List ℕ → Option WordCause
-value_fault OneProgram value = if is_some (program_named value) then None else Some cause.Program
+value_fault OneProgram value = name_fault (is_some (program_named value))
 value_fault (Number least greatest) value = setting_fault (setting_within value least greatest)
 value_fault DropList value = drop_list_fault value
 value_fault YesNo value =
     if bytes_eq value (codes "yes") || bytes_eq value (codes "no") then None else Some cause.Value
 value_fault ThreePorts value = setting_fault (ports_in value)
+value_fault FirstProgram value = name_fault (is_some (one_named all_firsts value))
+value_fault SecondProgram value = name_fault (is_some (one_named all_ones value))
+value_fault TableText value = table_fault value
 
--- The fault of a word, beside this command and the chosen program and behind the operands `before`: the first of these
+-- the fault of a word where the other program of a chain is named before and has this value too
+abbrev pub repeated : List (List ℕ) → Operand → List ℕ → Option WordCause
+repeated before other value =
+    if option_map_or (bytes_eq value) (given (table other).name before) false then Some cause.Same else None
+
+abbrev pub same_fault : List (List ℕ) → Operand → List ℕ → Option WordCause
+same_fault before operand.First value = repeated before operand.Second value
+same_fault before operand.Second value = repeated before operand.First value
+same_fault before operand value = None
+
+-- the fault of what an operand is given
+abbrev pub given_fault : List (List ℕ) → Operand → List ℕ → Option WordCause
+given_fault before operand value = option_or (value_fault (table operand).form value) (same_fault before operand value)
+
+-- The fault of a word, beside this command and what the words choose, and behind the operands `before`: the first of these
 -- that holds of it.
-module _ (command : Command) (program : Option ProgramName) (before : List (List ℕ)) (word : List ℕ) where
+module _ (command : Command) (choice : Choice) (before : List (List ℕ)) (word : List ℕ) where
   abbrev pub named_fault : Operand → Option WordCause
   named_fault operand =
-      if not (is_taken command program (table operand).taker) then Some cause.NotHere else
+      if not (is_taken command choice (table operand).taker) then Some cause.NotHere else
       (if list_any (is_named (name_in word)) before then Some cause.Twice
-      else value_fault (table operand).form (value_in word))
+      else given_fault before operand (value_in word))
 
   unfoldable pub operand_fault : Option WordCause
   operand_fault =
       if not (has_equals word) then Some cause.NoEquals
       else option_map_or named_fault (operand_named (name_in word)) (Some cause.UnknownName)
 
--- the fault of the operand at a place; the program is chosen by all operands
+-- the fault of the operand at a place; what runs is chosen by all operands
 abbrev pub fault_at : Command → List (List ℕ) → ℕ → Option WordCause
 fault_at command operands place =
     operand_fault command (chosen operands) (take place operands) (slice_index_or operands place [])
@@ -88,10 +92,14 @@ pub record IsFirstFault (command : Command) (operands : List (List ℕ)) (fault 
   pub cause : fault_at command operands place ≡ Some fault.cause
   pub number : fault.word ≡ place + 2
 
--- no operand has a fault, and none names a program: one word more is missing
+-- a required operand is absent
+abbrev pub lacks_operand : List (List ℕ) → Bool
+lacks_operand operands = list_any (is_absent operands) (required (program_in operands))
+
+-- no operand has a fault, and a required one is absent: one word more is missing
 pub record IsMissing (command : Command) (operands : List (List ℕ)) (fault : WordFault) : Type 0 where
   pub faultless : AreFaultless command operands
-  pub none : given (table operand.Program).name operands ≡ None
+  pub lacks : lacks_operand operands ≡ true
   pub cause : fault.cause ≡ cause.Missing
   pub number : fault.word ≡ length operands + 2
 

@@ -1,7 +1,9 @@
 -- What the tests of words answer.
-use Rattle.std.specs.Prelude.{◌≡◌, ℕ, List, Option, Some, None, Result, Ok, Err}
+use Rattle.std.specs.Prelude.{◌≡◌, ℕ, IsTrue, MatchOption, List, Option, Some, None, Result, Ok, Err}
 use Rattle.scr_plan.specs.declared.reading.DropError.{DropError}
 use Rattle.scr_plan.specs.declared.reading.DropError.TheVariants as drop
+use Rattle.scr_tables.specs.declared.reading.TableError.{TableError}
+use Rattle.scr_tables.specs.declared.reading.TableError.TheVariants as rules
 use Rattle.scr_words.specs.declared.word_fault.WordCause.{WordCause}
 use Rattle.scr_words.specs.declared.word_fault.WordCause.TheVariants as cause
 use Rattle.scr_words.specs.declared.settings.Command.{Command}
@@ -12,11 +14,15 @@ use Rattle.scr_words.specs.declared.reading.WordsError.{WordsError}
 use Rattle.scr_words.specs.declared.reading.WordsError.TheVariants as words
 use Rattle.scr_words.specs.Operands.{table}
 use Rattle.scr_words.specs.WordParts.{given}
-use Rattle.scr_words.specs.WordFaults.{value_fault, IsFirstFault, AreRefused}
+use Rattle.scr_words.specs.WordFaults.{value_fault, lacks_operand, IsFirstFault, AreRefused}
 
 abbrev pub drop_error : DropError → TestError
 drop_error (drop.Refused refusal place) = test.Refused (cause.Drop refusal place)
 drop_error (drop.OutOfMemory want) = test.OutOfMemory want
+
+abbrev pub table_error : TableError → TestError
+table_error (rules.Refused refusal place) = test.Refused (cause.Table refusal place)
+table_error (rules.OutOfMemory want) = test.OutOfMemory want
 
 -- a test passes where there is no fault, and refuses with the fault that there is, unless memory runs out
 abbrev pub Tells : Option WordCause → Result (Unit {0}) TestError → Type 0
@@ -37,3 +43,7 @@ AreRefusedBy given (words.OutOfMemory want) = Unit {0}
 abbrev pub HaveFaultlessValues : List (List ℕ) → Type 0
 HaveFaultlessValues operands = (operand : Operand) (value : List ℕ)
     → given (table operand).name operands ≡ Some value → value_fault (table operand).form value ≡ None
+
+-- what operands choose, or nothing where a required one is absent
+abbrev pub Chooses : {A : Type 0} → List (List ℕ) → (A → Type 0) → Option A → Type 0
+Chooses operands AreThese made = MatchOption made (IsTrue (lacks_operand operands)) AreThese

@@ -2,67 +2,112 @@ ghost use Rattle.std.specs.Prelude.{◌≡◌, ◌≤◌, IsTrue, Some, None, If
 ghost use Rattle.scr_base.specs.Numbers.{number_of};
 ghost use Rattle.scr_plan.specs.Spelling.{Spells};
 ghost use Rattle.scr_words.specs.Operands.{table, is_numeric, IsWithin};
-ghost use Rattle.scr_words.specs.WordParts.{chosen};
+ghost use Rattle.scr_words.specs.WordParts.{program_in, chosen};
 ghost use Rattle.scr_words.specs.WordFaults.{value_fault};
-ghost use Rattle.scr_words.specs.WordTests.{HaveFaultlessValues};
-ghost use Rattle.scr_words.specs.GivenSettings.{value_for, number_for, history_for, HasPorts, HasProgram, HasShape, AreChosen};
+ghost use Rattle.scr_words.specs.WordTests.{HaveFaultlessValues, Chooses};
+ghost use Rattle.scr_words.specs.GivenSettings.{value_for, number_for, history_for, HasPorts, HasNumbers, name_of, HasProgram, HasLink, HasShape, AreChosen};
 
-use crate::operand::{Form, Operand, ProgramName};
-use crate::parts::given;
-use crate::settings::{Command, ProgramSettings, RunSettings, Shape};
+use crate::operand::{Form, Operand};
+use crate::parts::{chosen, given};
+use crate::program_name::{Choice, OneName, ProgramName};
+use crate::settings::{Command, OneSettings, ProgramSettings, RunSettings, Shape};
 use scr_base::{OutOfMemory, Word, read_number};
 use scr_bucket::BucketSettings;
 use scr_conn::ConnSettings;
 use scr_ddos::DdosSettings;
 use scr_heavy::HeavySettings;
 use scr_knock::KnockSettings;
-use scr_plan::{DropError, Drops};
+use scr_plan::{DropError, Drops, Link};
+use scr_tables::{Table, TableError, TableSettings};
 use std::alloc::Global;
 
-/// The settings that operands choose, all of which passed their tests.
+/// The settings that operands choose, all of which passed their tests, or none where a required one is absent.
 pub(crate) fn settings(
     alloc: Global,
     command: Command,
-    program: ProgramName,
     operands: &[Word],
-) -> Result<RunSettings, OutOfMemory>
+) -> Result<Option<RunSettings>, OutOfMemory>
     requires values { HaveFaultlessValues operands.now }
-    requires program { chosen operands.now ≡ Some program }
-    ensures command { IfOk result (λ settings. settings.command ≡ command) }
-    ensures chosen { IfOk result (AreChosen operands.now) }
+    ensures { IfOk result (Chooses operands.now (λ settings. (settings.command ≡ command) × AreChosen operands.now settings)) }
 {
-    Ok(RunSettings {
+    let Some(program) = program_settings(alloc, operands)? else {
+        return Ok(None);
+    };
+    Ok(Some(RunSettings {
         command,
-        program: program_settings(program, operands),
+        program,
         shape: shape(alloc, operands)?,
         start: number(Operand::Start, operands),
         frames: number(Operand::Frames, operands) as u32,
         hosts: number(Operand::Hosts, operands) as u32,
-    })
+    }))
 }
 
-fn program_settings(program: ProgramName, operands: &[Word]) -> ProgramSettings
+fn program_settings(
+    alloc: Global,
+    operands: &[Word],
+) -> Result<Option<ProgramSettings>, OutOfMemory>
     requires values { HaveFaultlessValues operands.now }
-    requires program { chosen operands.now ≡ Some program }
-    ensures { HasProgram operands.now result }
+    ensures { IfOk result (Chooses operands.now (HasProgram operands.now)) }
+{
+    let choice = chosen(operands);
+    match choice.program {
+        None => Ok(None),
+        Some(ProgramName::One(one)) => Ok(Some(ProgramSettings::One(one_settings(one, operands)))),
+        Some(ProgramName::Chain) => Ok(chain_settings(choice, operands)),
+        Some(ProgramName::Table) => table_settings(alloc, operands),
+    }
+}
+
+fn chain_settings(choice: Choice, operands: &[Word]) -> Option<ProgramSettings>
+    requires values { HaveFaultlessValues operands.now }
+    requires choice { choice ≡ chosen operands.now }
+    requires program { choice.program ≡ Some ProgramName.Chain }
+    ensures { Chooses operands.now (HasProgram operands.now) result }
+{
+    let first = one_settings(choice.first?, operands);
+    let second = one_settings(choice.second?, operands);
+    Some(ProgramSettings::Chain { first, second })
+}
+
+fn table_settings(alloc: Global, operands: &[Word]) -> Result<Option<ProgramSettings>, OutOfMemory>
+    requires values { HaveFaultlessValues operands.now }
+    requires program { program_in operands.now ≡ Some ProgramName.Table }
+    ensures { IfOk result (Chooses operands.now (HasProgram operands.now)) }
+{
+    let Some(text) = given(Operand::Table.line().name, operands) else {
+        return Ok(None);
+    };
+    let flows = number(Operand::Flows, operands) as u32;
+    match Table::read(alloc, text) {
+        Ok(table) => Ok(Some(ProgramSettings::Table(TableSettings::new(table, flows)))),
+        Err(TableError::OutOfMemory(want)) => Err(want),
+        Err(TableError::Refused { .. }) => unreachable!(),
+    }
+}
+
+fn one_settings(name: OneName, operands: &[Word]) -> OneSettings
+    requires values { HaveFaultlessValues operands.now }
+    ensures name { name_of result ≡ name }
+    ensures numbers { HasNumbers operands.now result }
 {
     let flows = number(Operand::Flows, operands) as u32;
-    match program {
-        ProgramName::Ddos => ProgramSettings::Ddos(DdosSettings {
+    match name {
+        OneName::Ddos => OneSettings::Ddos(DdosSettings {
             threshold: number(Operand::Threshold, operands),
             flows,
         }),
-        ProgramName::Heavy => ProgramSettings::Heavy(HeavySettings {
+        OneName::Heavy => OneSettings::Heavy(HeavySettings {
             bytes: number(Operand::Bytes, operands),
             flows,
         }),
-        ProgramName::Bucket => ProgramSettings::Bucket(BucketSettings {
+        OneName::Bucket => OneSettings::Bucket(BucketSettings {
             rate: number(Operand::Rate, operands),
             burst: number(Operand::Burst, operands),
             flows,
         }),
-        ProgramName::Knock => ProgramSettings::Knock(knock_settings(flows, operands)),
-        ProgramName::Conn => ProgramSettings::Conn(ConnSettings {
+        OneName::Knock => OneSettings::Knock(knock_settings(flows, operands)),
+        OneName::Conn => OneSettings::Conn(ConnSettings {
             idle: number(Operand::Idle, operands),
             flows,
         }),
@@ -90,7 +135,7 @@ fn shape(alloc: Global, operands: &[Word]) -> Result<Shape, OutOfMemory>
     Ok(Shape {
         cores,
         history: history(cores, operands),
-        drops: drop_list(alloc, operands)?,
+        link: link(alloc, operands)?,
         ring: number(Operand::Ring, operands) as u32,
         threads: value(Operand::Threads, operands) == b"yes".as_slice(),
     })
@@ -108,6 +153,14 @@ fn history(cores: u32, operands: &[Word]) -> u32
         Some(text) => spelled(Operand::History, text) as u32,
         None => cores - 1,
     }
+}
+
+fn link(alloc: Global, operands: &[Word]) -> Result<Link, OutOfMemory>
+    requires values { HaveFaultlessValues operands.now }
+    ensures { IfOk result (HasLink operands.now) }
+{
+    let drops = drop_list(alloc, operands)?;
+    Ok(Link::dropping(alloc, drops))
 }
 
 fn drop_list(alloc: Global, operands: &[Word]) -> Result<Drops, OutOfMemory>

@@ -1,10 +1,11 @@
 ghost use Rattle.std.specs.Prelude.{◌≡◌, ◌<◌, length, OnOk, IfErr};
 ghost use Rattle.scr_words.specs.Operands.{IsOrdered};
-ghost use Rattle.scr_words.specs.WordFaults.{value_fault, operand_fault, AreFaultless};
+ghost use Rattle.scr_words.specs.WordFaults.{name_fault, value_fault, same_fault, given_fault, operand_fault, AreFaultless};
 ghost use Rattle.scr_words.specs.WordTests.{Tells, IsFirstFaultBy};
 
-use crate::operand::{Form, Operand, ProgramName};
-use crate::parts::{chosen, is_named, parts_of};
+use crate::operand::{Form, Operand};
+use crate::parts::{chosen, given, is_named, parts_of};
+use crate::program_name::{Choice, FIRSTS, ONES, OneName, ProgramName};
 use crate::reading::WordsError;
 use crate::settings::Command;
 use crate::word_fault::{WordCause, WordFault};
@@ -12,6 +13,7 @@ use scr_base::{OutOfMemory, Word};
 use scr_knock::KnockSettings;
 use scr_plan::{DropError, Drops};
 use scr_program::{SettingError, read_setting};
+use scr_tables::{Table, TableError};
 use std::alloc::Global;
 
 /// Why the test of a word didn't pass.
@@ -55,6 +57,22 @@ impl From<DropError> for TestError {
     }
 }
 
+impl From<TableError> for TestError {
+    ghost use Rattle.std.specs.Prelude.{◌≡◌};
+    ghost use Rattle.scr_words.specs.WordTests.{table_error};
+
+    ghost from_gives = { λ error made. made ≡ table_error error };
+
+    fn from(error: TableError) -> Self {
+        match error {
+            TableError::Refused { cause, place } => {
+                TestError::Refused(WordCause::Table { cause, place })
+            }
+            TableError::OutOfMemory(want) => TestError::OutOfMemory(want),
+        }
+    }
+}
+
 /// Tests the operands in order, up to the first that is refused.
 pub(crate) fn test_operands(
     alloc: Global,
@@ -65,9 +83,9 @@ pub(crate) fn test_operands(
     ensures ok { OnOk result (AreFaultless command operands.now) }
     ensures refused { IfErr result (IsFirstFaultBy command operands.now) }
 {
-    let program = chosen(operands);
+    let choice = chosen(operands);
     for (place, word) in operands.iter().enumerate() {
-        match test_operand(alloc, command, program, &operands[..place], word.bytes()) {
+        match test_operand(alloc, command, choice, &operands[..place], word.bytes()) {
             Ok(()) => {}
             Err(TestError::Refused(cause)) => {
                 let word = place as u32 + 2;
@@ -83,11 +101,11 @@ pub(crate) fn test_operands(
 fn test_operand(
     alloc: Global,
     command: Command,
-    program: Option<ProgramName>,
+    choice: Choice,
     before: &[Word],
     word: &[u8],
 ) -> Result<(), TestError>
-    ensures { Tells (operand_fault command program before.now word.now) result }
+    ensures { Tells (operand_fault command choice before.now word.now) result }
 {
     let Some((name, value)) = parts_of(word) else {
         return Err(TestError::Refused(WordCause::NoEquals));
@@ -95,15 +113,42 @@ fn test_operand(
     let Some(operand) = Operand::named(name) else {
         return Err(TestError::Refused(WordCause::UnknownName));
     };
-    let line = operand.line();
-    if !line.taker.is_met(command, program) {
+    if !operand.line().taker.is_met(command, choice) {
         return Err(TestError::Refused(WordCause::NotHere));
     }
     // At most one word of each name has passed, so few stand before this one.
     if before.iter().any(|earlier| is_named(name, earlier.bytes())) {
         return Err(TestError::Refused(WordCause::Twice));
     }
-    test_value(alloc, line.form, value)
+    test_given(alloc, before, operand, value)
+}
+
+// Tests the value that an operand is given.
+fn test_given(
+    alloc: Global,
+    before: &[Word],
+    operand: Operand,
+    value: &[u8],
+) -> Result<(), TestError>
+    ensures { Tells (given_fault before.now operand value.now) result }
+{
+    test_value(alloc, operand.line().form, value)?;
+    test_other(before, operand, value)
+}
+
+// Tests that the programs of a chain differ, where the other one is named before.
+fn test_other(before: &[Word], operand: Operand, value: &[u8]) -> Result<(), TestError>
+    ensures { Tells (same_fault before.now operand value.now) result }
+{
+    let other = match operand {
+        Operand::First => Operand::Second,
+        Operand::Second => Operand::First,
+        _ => return Ok(()),
+    };
+    match given(other.line().name, before) {
+        Some(named) if value == named => Err(TestError::Refused(WordCause::Same)),
+        _ => Ok(()),
+    }
 }
 
 // Tests a value for its form and range.
@@ -112,10 +157,9 @@ fn test_value(alloc: Global, form: Form, value: &[u8]) -> Result<(), TestError>
     ensures { Tells (value_fault form value.now) result }
 {
     match form {
-        Form::OneProgram => match ProgramName::named(value) {
-            Some(_) => Ok(()),
-            None => Err(TestError::Refused(WordCause::Program)),
-        },
+        Form::OneProgram => test_name(ProgramName::named(value).is_some()),
+        Form::FirstProgram => test_name(OneName::named(&FIRSTS, value).is_some()),
+        Form::SecondProgram => test_name(OneName::named(&ONES, value).is_some()),
         Form::Number { least, greatest } => {
             let _ = read_setting(value, least, greatest)?;
             Ok(())
@@ -134,5 +178,18 @@ fn test_value(alloc: Global, form: Form, value: &[u8]) -> Result<(), TestError>
             KnockSettings::new(1).set(b"ports", value)?;
             Ok(())
         }
+        Form::TableText => {
+            let _ = Table::read(alloc, value)?;
+            Ok(())
+        }
     }
+}
+
+fn test_name(is_name: bool) -> Result<(), TestError>
+    ensures { Tells (name_fault is_name) result }
+{
+    if !is_name {
+        return Err(TestError::Refused(WordCause::Program));
+    }
+    Ok(())
 }

@@ -4,8 +4,8 @@
 //! leave out, or the first word that is refused, with its first cause. [`put_word_line`] writes the line of a refused word.
 //!
 //! **What a contract sees.** Words as lists of bytes. The table of operands is specs/Operands.antt, with the limits in
-//! specs/Limits.antt; why words are refused is specs/WordFaults.antt, which settings they choose specs/GivenSettings.antt, and
-//! the line specs/WordLines.antt.
+//! specs/Limits.antt; why words are refused is specs/WordFaults.antt, with specs/TextFaults.antt for drop lists and tables;
+//! which settings they choose is specs/GivenSettings.antt, and the line specs/WordLines.antt.
 //!
 //! **What is proved.** Settings come only for words that are accepted, a refusal only for those that are refused, each by its
 //! definition. Any words have an answer ([`some_answer`]), and one alone ([`one_answer`]). So where memory suffices words are
@@ -14,7 +14,7 @@
 //! **What is only tested.** That there are settings where there is memory, since no contract sees how much there is. That
 //! settings and lines, written by hand, are what the definitions say.
 //!
-//! **Limits.** Fewer than 2^32 - 1 words. The drop list alone is kept in memory.
+//! **Limits.** Fewer than 2^32 - 1 words. The drop list and the table alone are kept in memory.
 #![tactic(auto)]
 
 mod choosing;
@@ -22,6 +22,7 @@ mod faults;
 mod laws;
 mod operand;
 mod parts;
+mod program_name;
 mod reading;
 mod settings;
 #[cfg(test)]
@@ -31,6 +32,6 @@ mod word_line;
 
 pub use laws::{one_answer, some_answer};
 pub use reading::{WordsError, read_words};
-pub use settings::{Command, ProgramSettings, RunSettings, Shape};
+pub use settings::{Command, OneSettings, ProgramSettings, RunSettings, Shape};
 pub use word_fault::{WordCause, WordFault};
 pub use word_line::put_word_line;

@@ -1,6 +1,7 @@
 ghost use Rattle.std.specs.Prelude.{◌≡◌};
-ghost use Rattle.scr_words.specs.Operands.{command_name, program_name, command_named, program_named, operand_named, table, is_taken};
+ghost use Rattle.scr_words.specs.Operands.{command_name, command_named, operand_named, table, taker_of, is_taken};
 
+use crate::program_name::{Choice, OneName, ProgramName};
 use crate::settings::Command;
 
 const MOST_FLOWS: u64 = 65_536;
@@ -16,24 +17,6 @@ const MOST_FRAMES: u64 = 1_000_000;
 const MOST_HOSTS: u64 = 65_536;
 
 const COMMANDS: [Command; 3] = [Command::Run, Command::Plain, Command::Load];
-
-/// The packet programs, as words name them.
-#[derive(Clone, Copy, PartialEq, Eq)]
-pub(crate) enum ProgramName {
-    Ddos,
-    Heavy,
-    Bucket,
-    Knock,
-    Conn,
-}
-
-const PROGRAMS: [ProgramName; 5] = [
-    ProgramName::Ddos,
-    ProgramName::Heavy,
-    ProgramName::Bucket,
-    ProgramName::Knock,
-    ProgramName::Conn,
-];
 
 /// What may stand before the first `=` of a word.
 #[derive(Clone, Copy)]
@@ -54,9 +37,12 @@ pub(crate) enum Operand {
     Burst,
     Ports,
     Idle,
+    First,
+    Second,
+    Table,
 }
 
-const OPERANDS: [Operand; 16] = [
+const OPERANDS: [Operand; 19] = [
     Operand::Program,
     Operand::Flows,
     Operand::Cores,
@@ -73,6 +59,9 @@ const OPERANDS: [Operand; 16] = [
     Operand::Burst,
     Operand::Ports,
     Operand::Idle,
+    Operand::First,
+    Operand::Second,
+    Operand::Table,
 ];
 
 /// Who takes an operand.
@@ -101,6 +90,12 @@ pub(crate) enum Form {
     YesNo,
     /// Three ports, parted by commas.
     ThreePorts,
+    /// The name of a program that may be the first of a chain.
+    FirstProgram,
+    /// The name of a program that may be the second of a chain.
+    SecondProgram,
+    /// A table of rules.
+    TableText,
 }
 
 /// An operand's line in the table.
@@ -109,7 +104,7 @@ pub(crate) struct TableLine {
     pub(crate) name: &'static [u8],
     pub(crate) taker: Taker,
     pub(crate) form: Form,
-    /// The value that stands where none is given. A program has none, and the history's depends on the cores.
+    /// The value that stands where none is given. Programs and a table have none, and the history's depends on the cores.
     pub(crate) default: &'static [u8],
 }
 
@@ -131,11 +126,13 @@ impl Operand {
         ensures form { result.form ≡ (table self).form }
         ensures default { result.default.now ≡ (table self).default }
     {
-        let ddos = Taker::Program(ProgramName::Ddos);
-        let heavy = Taker::Program(ProgramName::Heavy);
-        let bucket = Taker::Program(ProgramName::Bucket);
-        let knock = Taker::Program(ProgramName::Knock);
-        let conn = Taker::Program(ProgramName::Conn);
+        let ddos = taker_of(OneName::Ddos);
+        let heavy = taker_of(OneName::Heavy);
+        let bucket = taker_of(OneName::Bucket);
+        let knock = taker_of(OneName::Knock);
+        let conn = taker_of(OneName::Conn);
+        let chain = Taker::Program(ProgramName::Chain);
+        let table = Taker::Program(ProgramName::Table);
         match self {
             Operand::Program => line(b"program", Taker::Every, Form::OneProgram, b""),
             Operand::Flows => line(b"flows", Taker::Every, number(1, MOST_FLOWS), b"4096"),
@@ -153,6 +150,9 @@ impl Operand {
             Operand::Burst => line(b"burst", bucket, number(1, 1_000_000_000), b"100"),
             Operand::Ports => line(b"ports", knock, Form::ThreePorts, b"7000,8000,9000"),
             Operand::Idle => line(b"idle", conn, number(1, 10_000_000_000_000), b"60000000"),
+            Operand::First => line(b"first", chain, Form::FirstProgram, b""),
+            Operand::Second => line(b"second", chain, Form::SecondProgram, b""),
+            Operand::Table => line(b"table", table, Form::TableText, b""),
         }
     }
 }
@@ -169,6 +169,12 @@ fn line(name: &'static [u8], taker: Taker, form: Form, default: &'static [u8]) -
         form,
         default,
     }
+}
+
+fn taker_of(one: OneName) -> Taker
+    ensures { result ≡ taker_of one }
+{
+    Taker::Program(ProgramName::One(one))
 }
 
 fn number(least: u64, greatest: u64) -> Form
@@ -200,41 +206,17 @@ impl Command {
     }
 }
 
-impl ProgramName {
-    /// The program with this name.
-    pub(crate) fn named(name: &[u8]) -> Option<ProgramName>
-        ensures { result ≡ program_named name.now }
-    {
-        PROGRAMS
-            .iter()
-            .find(|program| program.name() == name)
-            .copied()
-    }
-
-    fn name(self) -> &'static [u8]
-        ensures { result.now ≡ program_name self }
-    {
-        match self {
-            ProgramName::Ddos => b"ddos",
-            ProgramName::Heavy => b"heavy",
-            ProgramName::Bucket => b"bucket",
-            ProgramName::Knock => b"knock",
-            ProgramName::Conn => b"conn",
-        }
-    }
-}
-
 impl Taker {
-    /// Whether an operand with this taker is taken beside this command and the chosen program. Where no program is
+    /// Whether an operand with this taker is taken beside this command and what the words choose. Where no program is
     /// chosen, the operands of each are.
-    pub(crate) fn is_met(self, command: Command, chosen: Option<ProgramName>) -> bool
-        ensures { result ≡ is_taken command chosen self }
+    pub(crate) fn is_met(self, command: Command, choice: Choice) -> bool
+        ensures { result ≡ is_taken command choice self }
     {
         match self {
             Taker::Every => true,
             Taker::WithCores => command != Command::Plain,
             Taker::LoadAlone => command == Command::Load,
-            Taker::Program(program) => chosen.is_none_or(|other| other == program),
+            Taker::Program(program) => choice.takes(program),
         }
     }
 }

@@ -1,8 +1,9 @@
 ghost use Rattle.std.specs.Prelude.{◌≡◌, MatchOption, false, option_copied};
 ghost use Rattle.scr_plan.specs.Spelling.{IsCut};
-ghost use Rattle.scr_words.specs.WordParts.{has_equals, is_named, given, chosen};
+ghost use Rattle.scr_words.specs.WordParts.{has_equals, is_named, given, program_in, first_in, second_in, chosen};
 
-use crate::operand::{Operand, ProgramName};
+use crate::operand::Operand;
+use crate::program_name::{Choice, FIRSTS, ONES, OneName, ProgramName};
 use scr_base::Word;
 
 /// The name and the value of a word: what stands in front of its first `=`, and what behind it.
@@ -33,9 +34,31 @@ pub(crate) fn given<'a>(name: &[u8], words: &'a [Word]) -> Option<&'a [u8]>
     Some(value)
 }
 
-/// The program that the words choose.
-pub(crate) fn chosen(words: &[Word]) -> Option<ProgramName>
+/// What the words choose to run.
+pub(crate) fn chosen(words: &[Word]) -> Choice
     ensures { result ≡ chosen words.now }
 {
+    Choice {
+        program: program_in(words),
+        first: first_in(words),
+        second: second_in(words),
+    }
+}
+
+fn program_in(words: &[Word]) -> Option<ProgramName>
+    ensures { result ≡ program_in words.now }
+{
     ProgramName::named(given(Operand::Program.line().name, words)?)
+}
+
+fn first_in(words: &[Word]) -> Option<OneName>
+    ensures { result ≡ first_in words.now }
+{
+    OneName::named(&FIRSTS, given(Operand::First.line().name, words)?)
+}
+
+fn second_in(words: &[Word]) -> Option<OneName>
+    ensures { result ≡ second_in words.now }
+{
+    OneName::named(&ONES, given(Operand::Second.line().name, words)?)
 }

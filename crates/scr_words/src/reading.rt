@@ -4,7 +4,6 @@ ghost use Rattle.scr_words.specs.WordTests.{AreRefusedBy};
 
 use crate::choosing::settings;
 use crate::faults::test_operands;
-use crate::parts::chosen;
 use crate::settings::{Command, RunSettings};
 use crate::word_fault::{WordCause, WordFault};
 use scr_base::{OutOfMemory, Word};
@@ -15,7 +14,7 @@ use std::alloc::Global;
 pub enum WordsError {
     /// The first word that is refused, with its first cause.
     Refused(WordFault),
-    /// There was no memory for the drop list.
+    /// There was no memory for the drop list or the table.
     OutOfMemory(OutOfMemory),
 }
 
@@ -44,10 +43,7 @@ pub fn read_words(alloc: Global, words: &[Word]) -> Result<RunSettings, WordsErr
         return Err(refused(1, WordCause::Command));
     };
     test_operands(alloc, command, operands)?;
-    let Some(program) = chosen(operands) else {
-        return Err(refused(words.len() as u32 + 1, WordCause::Missing));
-    };
-    Ok(settings(alloc, command, program, operands)?)
+    settings(alloc, command, operands)?.ok_or(refused(words.len() as u32 + 1, WordCause::Missing))
 }
 
 fn refused(word: u32, cause: WordCause) -> WordsError

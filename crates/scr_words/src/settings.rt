@@ -6,7 +6,8 @@ use scr_conn::ConnSettings;
 use scr_ddos::DdosSettings;
 use scr_heavy::HeavySettings;
 use scr_knock::KnockSettings;
-use scr_plan::Drops;
+use scr_plan::Link;
+use scr_tables::TableSettings;
 
 /// What the program is to do.
 #[derive(Clone, Copy, Debug, PartialEq, Eq)]
@@ -19,9 +20,9 @@ pub enum Command {
     Load,
 }
 
-/// A packet program, and the numbers that are chosen for it.
+/// One of the five programs, with the numbers that are chosen for it.
 #[derive(Clone, Copy, Debug, PartialEq, Eq)]
-pub enum ProgramSettings {
+pub enum OneSettings {
     /// The flood counter.
     Ddos(DdosSettings),
     /// Heavy flows.
@@ -34,6 +35,21 @@ pub enum ProgramSettings {
     Conn(ConnSettings),
 }
 
+/// What runs.
+#[derive(Debug, Drop)]
+pub enum ProgramSettings {
+    /// One program.
+    One(OneSettings),
+    /// A chain: the second program sees what the first lets pass. In accepted words the first is never the connection
+    /// tracker, and the two differ.
+    Chain {
+        first: OneSettings,
+        second: OneSettings,
+    },
+    /// A table of rules.
+    Table(TableSettings),
+}
+
 /// How the frames of a run go to its cores.
 #[derive(Debug, Drop)]
 pub struct Shape {
@@ -41,8 +57,8 @@ pub struct Shape {
     pub cores: u32,
     /// How many packets before its own a frame carries, at most 64.
     pub history: u32,
-    /// The frames that aren't delivered.
-    pub drops: Drops,
+    /// What lies between the sequencer and the cores.
+    pub link: Link,
     /// How many messages wait for a core at most, from 1 to 4,096.
     pub ring: u32,
     /// Whether each core has a thread of its own.

@@ -1,5 +1,6 @@
 //! Command lines, with the settings that each must give, by hand.
 
+mod ranges;
 mod refusals;
 
 use super::*;
@@ -9,6 +10,8 @@ use scr_conn::ConnSettings;
 use scr_ddos::DdosSettings;
 use scr_heavy::HeavySettings;
 use scr_knock::KnockSettings;
+use scr_plan::Fate;
+use scr_tables::{Decision, Pattern, Rule};
 use std::alloc::Global;
 use std::test::Fail;
 
@@ -32,13 +35,13 @@ fn read(alloc: Global, line: &str) -> Result<RunSettings, WordsError> {
 fn has_a_default_for_each_operand(rt: HostRuntime) -> Result<(), Fail> {
     let settings = read(rt.alloc(), "run program=ddos").map_err(|_| "refused")?;
     assert_eq!(rt; settings.command, Command::Run);
-    let ProgramSettings::Ddos(program) = settings.program else {
+    let ProgramSettings::One(OneSettings::Ddos(program)) = settings.program else {
         return Err(Fail::from("another program"));
     };
     assert_eq!(rt; (program.threshold, program.flows), (1000, 4096));
     assert_eq!(rt; (settings.shape.cores, settings.shape.history), (1, 0));
     assert_eq!(rt; (settings.shape.ring, settings.shape.threads), (1024, true));
-    assert!(rt; !settings.shape.drops.has(1));
+    assert_eq!(rt; settings.shape.link.fate(1), Fate::Once { delay: 0 });
     assert_eq!(rt;
         (settings.start, settings.frames, settings.hosts),
         (0, 1000, 16)
@@ -46,27 +49,31 @@ fn has_a_default_for_each_operand(rt: HostRuntime) -> Result<(), Fail> {
     Ok(())
 }
 
-fn program(alloc: Global, line: &str) -> Option<ProgramSettings> {
-    match read(alloc, line) {
-        Ok(settings) => Some(settings.program),
-        Err(_) => None,
+fn program(alloc: Global, line: &str) -> Option<OneSettings> {
+    one(read(alloc, line).ok()?.program)
+}
+
+fn one(program: ProgramSettings) -> Option<OneSettings> {
+    match program {
+        ProgramSettings::One(settings) => Some(settings),
+        _ => None,
     }
 }
 
 #[test]
 fn has_the_defaults_of_each_program(rt: HostRuntime) -> Result<(), Fail> {
     let bytes = 1_000_000;
-    let heavy = ProgramSettings::Heavy(HeavySettings { bytes, flows: 4096 });
+    let heavy = OneSettings::Heavy(HeavySettings { bytes, flows: 4096 });
     assert_eq!(rt; program(rt.alloc(), "plain program=heavy"), Some(heavy));
     let (rate, burst) = (1000, 100);
-    let bucket = ProgramSettings::Bucket(BucketSettings {
+    let bucket = OneSettings::Bucket(BucketSettings {
         rate,
         burst,
         flows: 4096,
     });
     assert_eq!(rt; program(rt.alloc(), "load program=bucket"), Some(bucket));
     let (first, second, third) = (7000, 8000, 9000);
-    let knock = ProgramSettings::Knock(KnockSettings {
+    let knock = OneSettings::Knock(KnockSettings {
         first,
         second,
         third,
@@ -74,7 +81,7 @@ fn has_the_defaults_of_each_program(rt: HostRuntime) -> Result<(), Fail> {
     });
     assert_eq!(rt; program(rt.alloc(), "run program=knock"), Some(knock));
     let idle = 60_000_000;
-    let conn = ProgramSettings::Conn(ConnSettings { idle, flows: 4096 });
+    let conn = OneSettings::Conn(ConnSettings { idle, flows: 4096 });
     assert_eq!(rt; program(rt.alloc(), "run program=conn"), Some(conn));
     Ok(())
 }
@@ -82,15 +89,15 @@ fn has_the_defaults_of_each_program(rt: HostRuntime) -> Result<(), Fail> {
 #[test]
 fn takes_each_program_operand(rt: HostRuntime) -> Result<(), Fail> {
     let (threshold, flows) = (4_294_967_295, 65_536);
-    let ddos = ProgramSettings::Ddos(DdosSettings { threshold, flows });
+    let ddos = OneSettings::Ddos(DdosSettings { threshold, flows });
     let line = "run threshold=4294967295 flows=65536 program=ddos";
     assert_eq!(rt; program(rt.alloc(), line), Some(ddos));
     let bytes = 1_000_000_000_000;
-    let heavy = ProgramSettings::Heavy(HeavySettings { bytes, flows: 1 });
+    let heavy = OneSettings::Heavy(HeavySettings { bytes, flows: 1 });
     let line = "run program=heavy bytes=1000000000000 flows=1";
     assert_eq!(rt; program(rt.alloc(), line), Some(heavy));
     let (rate, burst) = (0, 1_000_000_000);
-    let bucket = ProgramSettings::Bucket(BucketSettings {
+    let bucket = OneSettings::Bucket(BucketSettings {
         rate,
         burst,
         flows: 9,
@@ -98,7 +105,7 @@ fn takes_each_program_operand(rt: HostRuntime) -> Result<(), Fail> {
     let line = "run burst=1000000000 program=bucket flows=9 rate=0";
     assert_eq!(rt; program(rt.alloc(), line), Some(bucket));
     let (first, second, third) = (1, 65_535, 22);
-    let knock = ProgramSettings::Knock(KnockSettings {
+    let knock = OneSettings::Knock(KnockSettings {
         first,
         second,
         third,
@@ -107,9 +114,43 @@ fn takes_each_program_operand(rt: HostRuntime) -> Result<(), Fail> {
     let line = "run ports=0001,65535,022 program=knock";
     assert_eq!(rt; program(rt.alloc(), line), Some(knock));
     let idle = 10_000_000_000_000;
-    let conn = ProgramSettings::Conn(ConnSettings { idle, flows: 4096 });
+    let conn = OneSettings::Conn(ConnSettings { idle, flows: 4096 });
     let line = "run program=conn idle=10000000000000";
     assert_eq!(rt; program(rt.alloc(), line), Some(conn));
+    Ok(())
+}
+
+#[test]
+fn takes_a_chain(rt: HostRuntime) -> Result<(), Fail> {
+    let line = "run second=heavy threshold=3 program=chain bytes=60 first=ddos flows=9";
+    let program = read(rt.alloc(), line).map_err(|_| "refused")?.program;
+    let ProgramSettings::Chain { first, second } = program else {
+        return Err(Fail::from("another program"));
+    };
+    let (threshold, bytes, flows) = (3, 60, 9);
+    let ddos = OneSettings::Ddos(DdosSettings { threshold, flows });
+    let heavy = OneSettings::Heavy(HeavySettings { bytes, flows });
+    assert_eq!(rt; (first, second), (ddos, heavy));
+    Ok(())
+}
+
+#[test]
+fn takes_a_table(rt: HostRuntime) -> Result<(), Fail> {
+    let line = "load table=0:u>1/D,0:*>0/D,1:*>1/P flows=7 program=table";
+    let program = read(rt.alloc(), line).map_err(|_| "refused")?.program;
+    let ProgramSettings::Table(settings) = program else {
+        return Err(Fail::from("another program"));
+    };
+    assert_eq!(rt; settings.flows, 7);
+    let rules = settings.table.rules();
+    assert_eq!(rt; rules.len(), 3);
+    let first = Rule {
+        state: 0,
+        pattern: Pattern::Udp,
+        next: 1,
+        verdict: Decision::Drop,
+    };
+    assert_eq!(rt; rules[0], first);
     Ok(())
 }
 
@@ -122,10 +163,11 @@ fn takes_the_shape_of_a_run(rt: HostRuntime) -> Result<(), Fail> {
     let shape = settings.shape;
     assert_eq!(rt; (shape.cores, shape.history, shape.ring), (3, 2, 7));
     assert!(rt; !shape.threads);
-    let drops = shape.drops;
+    let link = shape.link;
+    let on_time = Fate::Once { delay: 0 };
     assert_eq!(rt;
-        (drops.has(3), drops.has(5), drops.has(6), drops.has(9)),
-        (true, true, false, true)
+        (link.fate(3), link.fate(5), link.fate(6), link.fate(9)),
+        (Fate::Lost, Fate::Lost, on_time, Fate::Lost)
     );
     assert_eq!(rt;
         (settings.start, settings.frames, settings.hosts),
@@ -142,8 +184,8 @@ fn gives_the_greatest_of_each_setting(rt: HostRuntime) -> Result<(), Fail> {
         "load program=ddos flows=65536 cores=16 history=64 ring=4096 start=18446744073709551615 frames=1000000 hosts=65536 threshold=4294967295";
     let settings = read(rt.alloc(), line).map_err(|_| "refused")?;
     let (threshold, flows) = (4_294_967_295, 65_536);
-    let ddos = ProgramSettings::Ddos(DdosSettings { threshold, flows });
-    assert_eq!(rt; settings.program, ddos);
+    let ddos = OneSettings::Ddos(DdosSettings { threshold, flows });
+    assert_eq!(rt; one(settings.program), Some(ddos));
     let shape = settings.shape;
     assert_eq!(rt; (shape.cores, shape.history, shape.ring), (16, 64, 4096));
     assert_eq!(rt;
@@ -151,7 +193,7 @@ fn gives_the_greatest_of_each_setting(rt: HostRuntime) -> Result<(), Fail> {
         (u64::MAX, 1_000_000, 65_536)
     );
     let (rate, burst) = (1_000_000_000, 1_000_000_000);
-    let bucket = ProgramSettings::Bucket(BucketSettings { rate, burst, flows });
+    let bucket = OneSettings::Bucket(BucketSettings { rate, burst, flows });
     let line = "plain program=bucket rate=1000000000 burst=00001000000000 flows=065536";
     assert_eq!(rt; program(rt.alloc(), line), Some(bucket));
     Ok(())
@@ -159,16 +201,16 @@ fn gives_the_greatest_of_each_setting(rt: HostRuntime) -> Result<(), Fail> {
 
 #[test]
 fn takes_an_empty_drop_list_and_numbers_beyond_the_run(rt: HostRuntime) -> Result<(), Fail> {
-    let ddos = ProgramSettings::Ddos(DdosSettings {
+    let ddos = OneSettings::Ddos(DdosSettings {
         threshold: 2,
         flows: 4096,
     });
     let settings = read(rt.alloc(), "run threshold=2 program=ddos drop=").map_err(|_| "refused")?;
-    assert_eq!(rt; settings.program, ddos);
-    assert!(rt; !settings.shape.drops.has(1));
+    assert_eq!(rt; one(settings.program), Some(ddos));
+    assert_eq!(rt; settings.shape.link.fate(1), Fate::Once { delay: 0 });
     let line = "run program=ddos threshold=2 drop=9999";
     let settings = read(rt.alloc(), line).map_err(|_| "refused")?;
-    assert_eq!(rt; settings.program, ddos);
-    assert!(rt; settings.shape.drops.has(9999));
+    assert_eq!(rt; one(settings.program), Some(ddos));
+    assert_eq!(rt; settings.shape.link.fate(9999), Fate::Lost);
     Ok(())
 }

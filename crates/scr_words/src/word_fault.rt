@@ -1,4 +1,5 @@
 use scr_plan::DropCause;
+use scr_tables::TableCause;
 
 /// A refused word: its number, from 1, and why.
 #[derive(Clone, Copy, Debug, PartialEq, Eq)]
@@ -22,7 +23,7 @@ pub enum WordCause {
     NotHere,
     /// An earlier word has the name.
     Twice,
-    /// The value is the name of no program.
+    /// The value is the name of no program, or of none that may stand there.
     Program,
     /// The value is not of its form.
     Value,
@@ -35,6 +36,16 @@ pub enum WordCause {
         /// How many bytes stand before that piece.
         place: u64,
     },
-    /// All words are good, and none of them names a program.
+    /// All words are good, and none of them gives a required operand: the program, one of the two of a chain, or the table
+    /// of a program given as one.
     Missing,
+    /// The two programs of a chain are the same, and this is the later of their words.
+    Same,
+    /// The table is refused.
+    Table {
+        /// Why its first refused rule is refused, or that a state lacks a rule for any packet.
+        cause: TableCause,
+        /// How many bytes stand before that rule, or the least such state.
+        place: u64,
+    },
 }

@@ -1,11 +1,12 @@
-ghost use Rattle.std.specs.Prelude.{◌≡◌};
+ghost use Rattle.std.specs.Prelude.{◌≡◌, ◌++◌};
 ghost use Rattle.scr_base.specs.Causes.{CountsError};
 ghost use Rattle.scr_base.specs.Streams.{BatchesText};
-ghost use Rattle.scr_words.specs.WordLines.{word_line, cause_line, drop_cause_name};
+ghost use Rattle.scr_words.specs.WordLines.{word_line, cause_line, drop_cause_name, table_cause_name, placed};
 
 use crate::word_fault::{WordCause, WordFault};
 use scr_base::{Batch, Piece, Sink, SinkError};
 use scr_plan::DropCause;
+use scr_tables::TableCause;
 
 /// Puts the line of a refused word into a batch. At `Err` a front of the line is in the batch and the sink: the sink failed,
 /// or it wanted memory.
@@ -42,25 +43,33 @@ fn put_cause<E: Sink>(batch: &mut Batch, err: &mut E, cause: WordCause) -> Resul
         WordCause::Program => batch.put(err, b"Program\n"),
         WordCause::Value => batch.put(err, b"Value\n"),
         WordCause::Range => batch.put(err, b"Range\n"),
-        WordCause::Drop { cause, place } => put_drop_cause(batch, err, cause, place),
+        WordCause::Drop { cause, place } => {
+            put_placed(batch, err, b"Drop ", drop_cause_name(cause), place)
+        }
         WordCause::Missing => batch.put(err, b"Missing\n"),
+        WordCause::Same => batch.put(err, b"Same\n"),
+        WordCause::Table { cause, place } => {
+            put_placed(batch, err, b"Table ", table_cause_name(cause), place)
+        }
     }
 }
 
-fn put_drop_cause<E: Sink>(
+// Puts the cause of a text that is refused, and where it is met.
+fn put_placed<E: Sink>(
     batch: &mut Batch,
     err: &mut E,
-    cause: DropCause,
+    text: &'static [u8],
+    name: &'static [u8],
     place: u64,
 ) -> Result<(), SinkError>
-    ensures text { BatchesText (E.written err.old) (E.written err.new) batch.old batch.new result (cause_line (WordCause.Drop cause place)) }
+    ensures text { BatchesText (E.written err.old) (E.written err.new) batch.old batch.new result (text.now ++ placed name.now place) }
     ensures cause { CountsError E.faults E.wants err.old err.new result }
 {
     batch.put_pieces(
         err,
         &[
-            Piece::Text(b"Drop "),
-            Piece::Text(drop_cause_name(cause)),
+            Piece::Text(text),
+            Piece::Text(name),
             Piece::Text(b" at "),
             Piece::Number(place),
             Piece::Text(b"\n"),
@@ -78,5 +87,17 @@ fn drop_cause_name(cause: DropCause) -> &'static [u8]
         DropCause::TooLarge => b"TooLarge",
         DropCause::Range => b"Range",
         DropCause::Pieces => b"Pieces",
+    }
+}
+
+fn table_cause_name(cause: TableCause) -> &'static [u8]
+    ensures { result.now ≡ table_cause_name cause }
+{
+    match cause {
+        TableCause::Empty => b"Empty",
+        TableCause::Form => b"Form",
+        TableCause::Range => b"Range",
+        TableCause::Rules => b"Rules",
+        TableCause::NoAny => b"NoAny",
     }
 }

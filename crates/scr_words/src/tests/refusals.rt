@@ -4,22 +4,23 @@ use super::read;
 use crate::{WordCause, WordFault, WordsError, put_word_line, read_words};
 use scr_base::{Batch, SureSink, Word};
 use scr_plan::DropCause;
+use scr_tables::TableCause;
 use std::alloc::Global;
 use std::test::Fail;
 
-fn refusal(alloc: Global, line: &str) -> Option<WordFault> {
+pub(super) fn refusal(alloc: Global, line: &str) -> Option<WordFault> {
     match read(alloc, line) {
         Err(WordsError::Refused(fault)) => Some(fault),
         _ => None,
     }
 }
 
-fn at(word: u32, cause: WordCause) -> Option<WordFault> {
+pub(super) fn at(word: u32, cause: WordCause) -> Option<WordFault> {
     Some(WordFault { word, cause })
 }
 
 /// Words, and the line that must come.
-const REFUSED: [(&str, &str); 17] = [
+const REFUSED: [(&str, &str); 25] = [
     ("", "scr: word 1: NoCommand\n"),
     ("walk", "scr: word 1: Command\n"),
     ("run", "scr: word 2: Missing\n"),
@@ -49,6 +50,32 @@ const REFUSED: [(&str, &str); 17] = [
         "run program=ddos drop=12-1000000001",
         "scr: word 3: Drop TooLarge at 0\n",
     ),
+    (
+        "run program=chain first=ddos second=ddos",
+        "scr: word 4: Same\n",
+    ),
+    (
+        "run program=chain first=conn second=ddos",
+        "scr: word 3: Program\n",
+    ),
+    ("run program=chain second=conn", "scr: word 4: Missing\n"),
+    ("plain program=table", "scr: word 3: Missing\n"),
+    (
+        "run program=table table=0:d7>1/P",
+        "scr: word 3: Table NoAny at 0\n",
+    ),
+    (
+        "run program=table table=0:*>16/P",
+        "scr: word 3: Table Range at 0\n",
+    ),
+    (
+        "run program=table table=",
+        "scr: word 3: Table Empty at 0\n",
+    ),
+    (
+        "run program=table table=0:*>0/P,x",
+        "scr: word 3: Table Form at 8\n",
+    ),
 ];
 
 #[test]
@@ -65,7 +92,7 @@ fn writes_the_line_of_each_refusal(rt: HostRuntime) -> Result<(), Fail> {
 }
 
 /// Lines with more than one fault, each beside the same with the faults in the other order, or with one of them mended.
-const SEVERAL: [(&str, u32, WordCause); 44] = [
+const SEVERAL: [(&str, u32, WordCause); 65] = [
     // A word without `=` and a name that no operand has.
     ("run -v color=red", 2, WordCause::NoEquals),
     ("run color=red -v", 2, WordCause::UnknownName),
@@ -167,6 +194,57 @@ const SEVERAL: [(&str, u32, WordCause); 44] = [
             place: 0,
         },
     ),
+    // The two of a chain: a name that may not stand there, then the same twice, at the later word.
+    ("run first=ddos second=ddos", 3, WordCause::Same),
+    ("run second=ddos first=ddos", 3, WordCause::Same),
+    ("run second=conn first=conn", 3, WordCause::Program),
+    ("run first=ddos first=x second=ddos", 3, WordCause::Twice),
+    ("run first=table", 2, WordCause::Program),
+    ("run second=chain", 2, WordCause::Program),
+    ("run first=ddos second=heavy", 4, WordCause::Missing),
+    // What a chain takes, where both of its programs are known and where not.
+    ("run program=ddos first=heavy", 3, WordCause::NotHere),
+    (
+        "run program=chain first=ddos second=heavy rate=5",
+        5,
+        WordCause::NotHere,
+    ),
+    (
+        "run rate=5 first=ddos program=chain second=ddos",
+        2,
+        WordCause::NotHere,
+    ),
+    ("run program=chain first=ddos rate=5", 5, WordCause::Missing),
+    (
+        "run program=chain second=ddos rate=5",
+        5,
+        WordCause::Missing,
+    ),
+    (
+        "run rate=5 program=chain first=ddos second=x",
+        5,
+        WordCause::Program,
+    ),
+    (
+        "run rate=5 program=chain first=conn second=ddos",
+        4,
+        WordCause::Program,
+    ),
+    ("run program=chain first=ddos table=", 4, WordCause::NotHere),
+    // Tables, which are tested without their program too.
+    ("run program=table first=heavy", 3, WordCause::NotHere),
+    ("run program=table rate=5", 3, WordCause::NotHere),
+    ("run program=ddos table=", 3, WordCause::NotHere),
+    ("run table=0:*>0/P", 3, WordCause::Missing),
+    ("run table=0:*>0/P table=", 3, WordCause::Twice),
+    (
+        "run table=0:*>0/P,0:*>0/X flows=0",
+        2,
+        WordCause::Table {
+            cause: TableCause::Form,
+            place: 8,
+        },
+    ),
 ];
 
 #[test]
@@ -209,115 +287,6 @@ fn splits_words_at_the_first_equals(rt: HostRuntime) -> Result<(), Fail> {
         refusal(alloc, "run=1 program=ddos"),
         at(1, WordCause::Command)
     );
-    Ok(())
-}
-
-/// Numbers at the ends of their ranges and beyond, and long ones.
-const NUMBERS: [(&str, Option<WordCause>); 55] = [
-    ("load program=ddos flows=0", Some(WordCause::Range)),
-    ("load program=ddos flows=1", None),
-    ("load program=ddos flows=65536", None),
-    ("load program=ddos flows=65537", Some(WordCause::Range)),
-    ("load program=ddos cores=0", Some(WordCause::Range)),
-    ("load program=ddos cores=16", None),
-    ("load program=ddos cores=17", Some(WordCause::Range)),
-    (
-        "load program=ddos cores=00000000000000000000000000000000000000001",
-        None,
-    ),
-    (
-        "load program=ddos cores=00000000000000000000000000000000000000017",
-        Some(WordCause::Range),
-    ),
-    (
-        "load program=ddos cores=9999999999999999999999999999999999999999",
-        Some(WordCause::Range),
-    ),
-    (
-        "load program=ddos cores=999999999999999999999999999999999999999x",
-        Some(WordCause::Value),
-    ),
-    ("load program=ddos history=0", None),
-    ("load program=ddos history=64", None),
-    ("load program=ddos history=65", Some(WordCause::Range)),
-    ("load program=ddos ring=0", Some(WordCause::Range)),
-    ("load program=ddos ring=1", None),
-    ("load program=ddos ring=4096", None),
-    ("load program=ddos ring=4097", Some(WordCause::Range)),
-    ("load program=ddos start=18446744073709551615", None),
-    (
-        "load program=ddos start=18446744073709551616",
-        Some(WordCause::Range),
-    ),
-    (
-        "load program=ddos start=00000000000000000000018446744073709551615",
-        None,
-    ),
-    ("load program=ddos frames=0", None),
-    ("load program=ddos frames=1000000", None),
-    ("load program=ddos frames=1000001", Some(WordCause::Range)),
-    ("load program=ddos hosts=0", Some(WordCause::Range)),
-    ("load program=ddos hosts=1", None),
-    ("load program=ddos hosts=65536", None),
-    ("load program=ddos hosts=65537", Some(WordCause::Range)),
-    ("load program=ddos threshold=0", None),
-    ("load program=ddos threshold=4294967295", None),
-    (
-        "load program=ddos threshold=4294967296",
-        Some(WordCause::Range),
-    ),
-    ("load program=ddos threshold=-1", Some(WordCause::Value)),
-    ("load program=ddos threshold=+1", Some(WordCause::Value)),
-    ("load program=heavy bytes=0", Some(WordCause::Range)),
-    ("load program=heavy bytes=1", None),
-    ("load program=heavy bytes=1000000000000", None),
-    (
-        "load program=heavy bytes=1000000000001",
-        Some(WordCause::Range),
-    ),
-    ("load program=bucket rate=0", None),
-    ("load program=bucket rate=1000000000", None),
-    (
-        "load program=bucket rate=1000000001",
-        Some(WordCause::Range),
-    ),
-    ("load program=bucket burst=0", Some(WordCause::Range)),
-    ("load program=bucket burst=1", None),
-    ("load program=bucket burst=1000000000", None),
-    (
-        "load program=bucket burst=1000000001",
-        Some(WordCause::Range),
-    ),
-    ("load program=knock ports=1,1,1", None),
-    ("load program=knock ports=65535,65535,65535", None),
-    ("load program=knock ports=1,1,65536", Some(WordCause::Range)),
-    (
-        "load program=knock ports=00000000000000000000000000022,0080,00443",
-        None,
-    ),
-    ("load program=conn idle=0", Some(WordCause::Range)),
-    ("load program=conn idle=1", None),
-    ("load program=conn idle=10000000000000", None),
-    (
-        "load program=conn idle=10000000000001",
-        Some(WordCause::Range),
-    ),
-    ("load program=ddos drop=", None),
-    (
-        "load program=ddos drop=00000000000000000000001-0002/00000000003",
-        None,
-    ),
-    ("load program=ddos threads=no", None),
-];
-
-#[test]
-fn takes_numbers_of_their_ranges(rt: HostRuntime) -> Result<(), Fail> {
-    for (words, cause) in NUMBERS {
-        match cause {
-            Some(cause) => assert_eq!(rt; refusal(rt.alloc(), words), at(3, cause), "at {words}"),
-            None => assert!(rt; read(rt.alloc(), words).is_ok(), "at {words}"),
-        }
-    }
     Ok(())
 }
 

@@ -2,7 +2,7 @@ use Rattle.std.proofs.Common.{◌+◌, ◌<◌, ℕ, List, Some, length, get_or,
 use Rattle.std.specs.Prelude.{slice_get}
 use Rattle.std.proofs.lemmas.Option.{slice_get-get_or}
 use Rattle.scr_base.specs.declared.row.Row.{Row}
-use Rattle.scr_plan.specs.Link.{Link, fate_of}
+use Rattle.scr_plan.specs.Link.{fate_of}
 use Rattle.scr_plan.specs.Plan.{frame_count}
 use Rattle.scr_sequencer.specs.Sequence.{Sequence, begun}
 use Rattle.scr_sequencer.specs.Answers.{Adds, Follows}

@@ -1,16 +1,10 @@
 use Rattle.scr_run.proofs.commands.run_chosen.Goals as goal
 
-pub returns-in-Ddos-clause-ends : goal.returns-in-Ddos-clause-ends
-returns-in-Ddos-clause-ends g c = rw c.in-Ddos.is c.run_command.ensures.ends
+pub returns-in-One-clause-ends : goal.returns-in-One-clause-ends
+returns-in-One-clause-ends g c = rw c.in-One.is c.run_one.ensures.ends
 
-pub returns-in-Heavy-clause-ends : goal.returns-in-Heavy-clause-ends
-returns-in-Heavy-clause-ends g c = rw c.in-Heavy.is c.run_command-in-Heavy.ensures.ends
+pub returns-in-Chain-clause-ends : goal.returns-in-Chain-clause-ends
+returns-in-Chain-clause-ends g c = rw c.in-Chain.is c.run_pair.ensures.ends
 
-pub returns-in-Bucket-clause-ends : goal.returns-in-Bucket-clause-ends
-returns-in-Bucket-clause-ends g c = rw c.in-Bucket.is c.run_command-in-Bucket.ensures.ends
-
-pub returns-in-Knock-clause-ends : goal.returns-in-Knock-clause-ends
-returns-in-Knock-clause-ends g c = rw c.in-Knock.is c.run_command-in-Knock.ensures.ends
-
-pub returns-in-Conn-clause-ends : goal.returns-in-Conn-clause-ends
-returns-in-Conn-clause-ends g c = rw c.in-Conn.is c.run_command-in-Conn.ensures.ends
+pub returns-in-Table-clause-ends : goal.returns-in-Table-clause-ends
+returns-in-Table-clause-ends g c = rw c.in-Table.is c.run_command.ensures.ends

@@ -9,22 +9,22 @@ pub returns-in-Plain-clause-ends : goal.returns-in-Plain-clause-ends
 returns-in-Plain-clause-ends g c =
     let settings = c.args.settings.now in
     let rules : Rules = ruled_by (g.P.Program.row_of settings) (g.P.Program.verdict_after settings) (g.P.Program.count_after settings) g.P.Program.verdict_names in
-    let chosen = c.args.chosen in
-    EndsBy-plain rules chosen.shape (generated_records chosen.start chosen.frames chosen.hosts) (g.S.Source.left c.args.capture.now) _
-    g.O.Sink.written g.O.Sink.faults g.O.Sink.wants _ _ _ _ (ended c.run_whole.result) chosen.command c.in-Plain.is c.run_whole.ensures.ends
+    let task = c.args.task in
+    EndsBy-plain rules task.shape (generated_records task.start task.frames task.hosts) (g.S.Source.left c.args.capture.now) _
+    g.O.Sink.written g.O.Sink.faults g.O.Sink.wants _ _ _ _ (ended c.run_whole.result) task.command c.in-Plain.is c.run_whole.ensures.ends
 
 pub returns-in-Run-clause-ends : goal.returns-in-Run-clause-ends
 returns-in-Run-clause-ends g c =
     let settings = c.args.settings.now in
     let rules : Rules = ruled_by (g.P.Program.row_of settings) (g.P.Program.verdict_after settings) (g.P.Program.count_after settings) g.P.Program.verdict_names in
-    let chosen = c.args.chosen in
-    EndsBy-run rules chosen.shape (generated_records chosen.start chosen.frames chosen.hosts) (g.S.Source.left c.args.capture.now) _
-    g.O.Sink.written g.O.Sink.faults g.O.Sink.wants _ _ _ _ (ended c.run_cores.result) chosen.command c.in-Run.is c.run_cores.ensures.ends
+    let task = c.args.task in
+    EndsBy-run rules task.shape (generated_records task.start task.frames task.hosts) (g.S.Source.left c.args.capture.now) _
+    g.O.Sink.written g.O.Sink.faults g.O.Sink.wants _ _ _ _ (ended c.run_cores.result) task.command c.in-Run.is c.run_cores.ensures.ends
 
 pub returns-in-Load-clause-ends : goal.returns-in-Load-clause-ends
 returns-in-Load-clause-ends g c =
     let settings = c.args.settings.now in
     let rules : Rules = ruled_by (g.P.Program.row_of settings) (g.P.Program.verdict_after settings) (g.P.Program.count_after settings) g.P.Program.verdict_names in
-    let chosen = c.args.chosen in
-    EndsBy-load rules chosen.shape (generated_records chosen.start chosen.frames chosen.hosts) (g.S.Source.left c.args.capture.now) _
-    g.O.Sink.written g.O.Sink.faults g.O.Sink.wants _ _ _ _ (ended c.run_load.result) chosen.command c.in-Load.is refl c.run_load.ensures.ends
+    let task = c.args.task in
+    EndsBy-load rules task.shape (generated_records task.start task.frames task.hosts) (g.S.Source.left c.args.capture.now) _
+    g.O.Sink.written g.O.Sink.faults g.O.Sink.wants _ _ _ _ (ended c.run_load.result) task.command c.in-Load.is refl c.run_load.ensures.ends

@@ -7,8 +7,8 @@ use Rattle.scr_run.proofs.commands.run_load.Goals as goal
 
 pub returns : goal.returns
 returns g c =
-    let chosen = c.args.chosen in
+    let task = c.args.task in
     record {
-      ends = Ends-of_load _ c.in_ok-bytes.bytes.items _ (generated_records chosen.start chosen.frames chosen.hosts) _ g.O.Sink.written g.O.Sink.faults g.O.Sink.wants _ _ _ _ _ 0
+      ends = Ends-of_load _ c.in_ok-bytes.bytes.items _ (generated_records task.start task.frames task.hosts) _ g.O.Sink.written g.O.Sink.faults g.O.Sink.wants _ _ _ _ _ 0
           (ended c.run_cores.result) (same_readings c.in_ok-bytes.bytes.items) (ap (λ (b : List ℕ). Some b) c.new-made.ensures.left) c.in_ok-bytes.ensures.reading refl tt c.run_cores.ensures.ends;
     }

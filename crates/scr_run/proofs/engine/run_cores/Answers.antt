@@ -49,8 +49,8 @@ returns g c =
     let found = c.in_ok-gathered.ensures in
     let outcome : c.in_ok-report.report ≡ outcome_of rules plan =
     c.in_ok-report.ensures ∙ (λ i. report_of names (found.verdicts i) (frame_count plan) (delivered_count plan) (kept_count plan) (found.cores i) (found.flows i)) in
-    let shaped = plan-of plan (rows_of row_of rows.0) shape.cores shape.history shape.drops
-    (c.make-plan.ensures.rows ∙ rows.2) c.make-plan.ensures.cores c.make-plan.ensures.history c.make-plan.ensures.drops in
+    let shaped = plan-of plan (rows_of row_of rows.0) shape.cores shape.history shape.link
+    (c.make-plan.ensures.rows ∙ rows.2) c.make-plan.ensures.cores c.make-plan.ensures.history c.make-plan.ensures.link in
     let is = ap (λ (o : Outcome). report_text names o c.args.with_verdicts) (outcome ∙ ap (λ (p : Plan). outcome_of rules p) shaped) in
     record {
       ends = Ends-behind g.O.Sink.written g.O.Sink.faults g.O.Sink.wants _ _ _ _ _ _ _ _ (ended c.write_found.result)

@@ -1,8 +1,8 @@
 use Rattle.std.proofs.Common.{◌≡◌, None, ap, ◌∙◌}
 use Rattle.scr_words.specs.declared.operand.Operand.TheVariants.{Drop}
-use Rattle.scr_words.specs.WordFaults.{drop_list_fault}
+use Rattle.scr_words.specs.TextFaults.{drop_list_fault}
 use Rattle.scr_words.proofs.GivenValues.{value_for-passes}
-use Rattle.scr_words.proofs.DropListFaults.{drop_list_fault-empty, drop_list_fault-refused}
+use Rattle.scr_words.proofs.TextFaults.{drop_list_fault-empty, drop_list_fault-refused}
 use Rattle.scr_words.proofs.choosing.drop_list.Goals as goal
 
 pub unreachable-requires : goal.unreachable-requires

@@ -11,8 +11,8 @@ returns-in-Err-Refused-clause-refused c =
       within = c.loop-place-test.true;
       before = c.loop-place.invariant;
       cause =
-          sym (fault_at-is c.args.command c.args.operands.now c.loop-place.place c.chosen-program.result c.bytes.result.now c.index-operands-place.result
-          c.chosen-program.ensures c.bytes.ensures c.index-operands-place.is c.loop-place-test.true)
+          sym (fault_at-is c.args.command c.args.operands.now c.loop-place.place c.chosen-choice.result c.bytes.result.now c.index-operands-place.result
+          c.chosen-choice.ensures c.bytes.ensures c.index-operands-place.is c.loop-place-test.true)
           ∙ told ∙ ap Some (sym c.in-Err-Refused.cause-is);
       number = refl;
     }
@@ -20,7 +20,7 @@ returns-in-Err-Refused-clause-refused c =
 pub loop-place-preserved : goal.loop-place-preserved
 loop-place-preserved c =
     let here : fault_at c.args.command c.args.operands.now c.loop-place.place ≡ None =
-    sym (fault_at-is c.args.command c.args.operands.now c.loop-place.place c.chosen-program.result c.bytes.result.now c.index-operands-place.result
-    c.chosen-program.ensures c.bytes.ensures c.index-operands-place.is c.loop-place-test.true)
+    sym (fault_at-is c.args.command c.args.operands.now c.loop-place.place c.chosen-choice.result c.bytes.result.now c.index-operands-place.result
+    c.chosen-choice.ensures c.bytes.ensures c.index-operands-place.is c.loop-place-test.true)
     ∙ c.in-Ok.ensures in
     below_more _ _ c.loop-place.invariant here

@@ -1,8 +1,7 @@
-use Rattle.std.proofs.Common.{◌≡◌, ◌<◌, ℕ, [], List, length, slice_index_or, ◌∷◌, ◌++◌, Result, Ok, Err}
-use Rattle.std.specs.Prelude.{OnOk}
+use Rattle.std.proofs.Common.{◌≡◌, ℕ, [], List, ◌∷◌, ◌++◌}
 use Rattle.scr_base.specs.declared.row.Row.{Row}
 use Rattle.scr_base.specs.declared.row.Verdict.{Verdict}
-use Rattle.scr_chain.specs.Chains.{lets_pass, passing, IsPassTable}
+use Rattle.scr_chain.specs.Chains.{passing}
 use Rattle.scr_chain.proofs.Passing.{stands-stopped, stands-passed}
 use Rattle.scr_chain.proofs.chain.ChainProgram.step.Goals as goal
 

@@ -7,5 +7,5 @@ pub returns-clause-place : goal.returns-clause-place
 unfolding place tag_offset
 returns-clause-place c =
     let q : ℕ = c.args.p - 1 in
-    ap (λ (n : ℕ). c.args.core * (8 * n + 1) + 8 * (q % n)) c.self.invariant.2
-    ∙ ap (λ (l : LogsOf). c.args.core * (8 * l.slots + 1) + 8 * (q % l.slots)) c.self.view_is
+    rw c.core_words.ensures (ap (λ (n : ℕ). c.args.core * (8 * n + 1) + 8 * (q % n)) c.self.invariant.2
+    ∙ ap (λ (l : LogsOf). c.args.core * (8 * l.slots + 1) + 8 * (q % l.slots)) c.self.view_is)
