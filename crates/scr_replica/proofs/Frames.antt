@@ -17,7 +17,7 @@ use Rattle.scr_replica.specs.Entries.{entry_of, Knows, IsFrameTo, with_lost}
 use Rattle.scr_replica.proofs.Lost.{length-with_lost}
 use Rattle.scr_replica.proofs.Knowing.{IsFinal, entry_lost, entry_row, is_frame_to, not_carried, final_lost}
 
-module _ (plan : Plan) (core : ℕ) (message : Message) (known : List Entry) (frame : IsFrameTo plan core message) (knows : Knows plan core (number_of message - 1) known) where
+module _ (plan : Plan) (core : ℕ) (message : Message) (frame : IsFrameTo plan core message) where
   abbrev first : ℕ
   first = first_carried plan.history (number_of message) - 1
 
@@ -34,24 +34,17 @@ module _ (plan : Plan) (core : ℕ) (message : Message) (known : List Entry) (fr
         length-take-le (number_of message) plan.rows is.is.to,
       )
 
-  -- what stands before them and isn't known is lost
-  pub lost_before : (p : ℕ) → length known < p → p ≤ number_of message - length (rows_of message) → entry_of plan core p ≡ Lost
-  lost_before p above to =
+  -- the delivered frames before it are up to d
+  abbrev pub EarlierUpTo : ℕ → Type 0
+  EarlierUpTo d = (f : ℕ) → f ≤ number_of message - 1 → delivers_to plan core f ≡ true → f ≤ d
+
+  -- a packet above d that stands before its rows is lost
+  pub lost_before : (d p : ℕ) → EarlierUpTo d → d < p → p ≤ number_of message - length (rows_of message) → entry_of plan core p ≡ Lost
+  lost_before d p earlier above to =
       let is = is_frame_to plan core (number_of message) frame.is_delivered in
       let from = is.is.from in
       let count = count_of in
-      entry_lost plan core p
-      (not_carried plan core (number_of message - 1) p known knows above (λ f later all. omega arith))
-
-  pub final_before : IsFinal plan core (with_lost (number_of message - length (rows_of message)) known)
-  final_before = final_lost plan core (number_of message - length (rows_of message)) known knows.final lost_before
-
-  pub few_before : length (with_lost (number_of message - length (rows_of message)) known) ≤ number_of message
-  few_before =
-      let is = is_frame_to plan core (number_of message) frame.is_delivered in
-      let from = is.is.from in
-      let within = knows.within in
-      omega (arith, length-with_lost (number_of message - length (rows_of message)) known)
+      entry_lost plan core p (not_carried plan core (number_of message - 1) p d earlier above (λ f later all. omega arith))
 
   module _ (i p : ℕ) (row : Row) (at : slice_get (rows_of message) i ≡ Some row) (place : (number_of message - length (rows_of message)) + i + 1 ≡ p) where
     to_frame : p ≤ number_of message
@@ -90,11 +83,11 @@ module _ (plan : Plan) (core : ℕ) (message : Message) (known : List Entry) (fr
         (Decides-carried plan core p).1
         (record { frame = number_of message; is_delivered = is; carries_it = record { from = omega arith; to = to } })
 
-    -- its own frame was delivered before only if the packet is known
-    pub row_of_earlier : length known < p → p < number_of message → Carried row ≡ entry_of plan core p
-    row_of_earlier above earlier =
+    -- its own frame wasn't delivered, where the delivered frames before this one are up to d
+    pub row_of_earlier : (d : ℕ) → EarlierUpTo d → d < p → p < number_of message → Carried row ≡ entry_of plan core p
+    row_of_earlier d earlier above below =
         let not_own : delivers_to plan core p ≡ false =
-        false_from_ne_true (delivers_to plan core p) (λ own. let le = knows.own p (omega arith) own in absurd (omega arith)) in
+        false_from_ne_true (delivers_to plan core p) (λ own. let le = earlier p (omega arith) own in absurd (omega arith)) in
         sym (entry_row plan core p row false is_carried the_row not_own)
 
     pub row_of_own : number_of message ≤ p → Delivered row ≡ entry_of plan core p
@@ -103,6 +96,20 @@ module _ (plan : Plan) (core : ℕ) (message : Message) (known : List Entry) (fr
         let same : number_of message ≡ p = omega arith in
         let own : delivers_to plan core p ≡ true = ap (delivers_to plan core) (sym same) ∙ frame.is_delivered in
         sym (entry_row plan core p row true is_carried the_row own)
+
+  -- what is known
+  module _ (known : List Entry) (knows : Knows plan core (number_of message - 1) known) where
+    pub final_before : IsFinal plan core (with_lost (number_of message - length (rows_of message)) known)
+    final_before =
+        final_lost plan core (number_of message - length (rows_of message)) known knows.final
+        (λ p above to. lost_before (length known) p knows.own above to)
+
+    pub few_before : length (with_lost (number_of message - length (rows_of message)) known) ≤ number_of message
+    few_before =
+        let is = is_frame_to plan core (number_of message) frame.is_delivered in
+        let from = is.is.from in
+        let within = knows.within in
+        omega (arith, length-with_lost (number_of message - length (rows_of message)) known)
 
   -- what is known at last
   pub knows_all : (now : List Entry) → IsFinal plan core now → length now ≡ number_of message → Knows plan core (number_of message) now

@@ -68,10 +68,10 @@ module _ (plan : Plan) (core : ℕ) where
   pub is_frame_to : (n : ℕ) → delivers_to plan core n ≡ true → IsDeliveredTo plan core n
   is_frame_to n holds = (Decides-delivered_to plan core n).0 holds
 
-  -- no frame carries a packet behind all that is known, where no later frame does
-  pub not_carried : (n p : ℕ) (known : List Entry) → Knows plan core n known → length known < p
+  -- a packet above d, where all frames up to n that are delivered to the core are up to d, and no later one carries it
+  pub not_carried : (n p d : ℕ) → ((f : ℕ) → f ≤ n → delivers_to plan core f ≡ true → f ≤ d) → d < p
       → ((f : ℕ) → n < f → f ≤ frame_count plan → p < first_carried plan.history f) → carries_to plan core p ≡ false
-  not_carried n p known knows above none =
+  not_carried n p d own above none =
       false_from_ne_true (carries_to plan core p)
       (λ holds.
       let is = (Decides-carried plan core p).0 holds in
@@ -80,7 +80,7 @@ module _ (plan : Plan) (core : ℕ) where
       let again : delivers_to plan core is.frame ≡ true = (Decides-delivered_to plan core is.frame).1 it in
       elim (cases_lt n is.frame) as (λ _. ⊥) [
         | inl later ↦ (let early = none is.frame later it.is.to in absurd (omega (arith, by.from)))
-        | inr before ↦ (let le = knows.own is.frame before again in absurd (omega (arith, by.to)))
+        | inr before ↦ (let le = own is.frame before again in absurd (omega (arith, by.to)))
       ])
 
   -- ---- what is known
@@ -93,7 +93,7 @@ module _ (plan : Plan) (core : ℕ) where
       let within = knows.within in
       let len = length-with_lost number known in
       record {
-        final = final_lost number known knows.final (λ p above to. entry_lost p (not_carried n p known knows above (none p to)));
+        final = final_lost number known knows.final (λ p above to. entry_lost p (not_carried n p (length known) knows.own above (none p to)));
         within = omega arith;
         own = λ frame to holds. let le = knows.own frame to holds in omega arith;
       }

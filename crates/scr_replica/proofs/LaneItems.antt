@@ -67,7 +67,7 @@ module _ (p : Item → Bool) where
 abbrev pub greatest : Plan → (from : ℕ) → List Item → ℕ
 greatest plan from items = fold max from (map message.number_of (map (message_of plan) items))
 
-same-number : (plan : Plan) (it : Item) → message.number_of (message_of plan it) ≡ number_of it
+pub same-number : (plan : Plan) (it : Item) → message.number_of (message_of plan it) ≡ number_of it
 same-number plan (item.Beacon n) = refl
 same-number plan (item.Frame n) = refl
 

@@ -10,6 +10,7 @@ pub mod InOrder
 pub mod OneCoreOfAll
 pub mod LaneItems
 pub mod Taken
+pub mod TakenInOrder
 pub mod Deciding
 pub mod Undivided
 pub mod Counted

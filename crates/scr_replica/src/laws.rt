@@ -4,10 +4,18 @@ ghost use Rattle.scr_base.specs.declared.row.Row.{Row};
 ghost use Rattle.scr_base.specs.declared.row.Verdict.{Verdict};
 ghost use Rattle.scr_plan.specs.declared.given.Given.{Given};
 ghost use Rattle.scr_plan.specs.Link.{empty_link};
-ghost use Rattle.scr_plan.specs.Plan.{Plan, frame_count};
-ghost use Rattle.scr_plan.specs.Delivered.{delivers};
+ghost use Rattle.scr_plan.specs.Plan.{Plan, IsPlan, frame_count};
+ghost use Rattle.scr_plan.specs.Delivered.{delivers, delivers_to};
 ghost use Rattle.scr_plan.specs.Counts.{delivered_count, kept_count};
+ghost use Rattle.scr_wire.specs.Lane.{lane};
+ghost use Rattle.scr_replica.specs.Told.{frames_taken};
 ghost use Rattle.scr_replica.specs.OneCore.{verdicts, entries, all_verdicts, undivided};
+
+/// Of its lane, late frames and second copies among it, a core takes the frames that are delivered to it, each once and in
+/// growing order.
+pub fn frames_of_a_lane()
+    ensures { (plan : Plan) (core : ℕ) → IsPlan plan → frames_taken 0 (lane plan core) ≡ filter (delivers_to plan core) (range_with_len 1 (frame_count plan)) }
+{}
 
 /// Where the link does nothing, the one-core answer is over all rows: the verdict of each packet comes after all rows
 /// before it. With one row more, one verdict more is given, behind the others.

@@ -21,7 +21,7 @@ loop-i-init c =
     record {
       here = omega (arith, before, len, all, counted);
       more = omega (arith, before, len, all, counted);
-      final = λ plan core frame knows. subst (IsFinal plan core) (sym items) (final_before plan core message c.args.self.now frame knows);
+      final = λ plan core frame knows. subst (IsFinal plan core) (sym items) (final_before plan core message frame c.args.self.now knows);
     }
 
 pub loop-i-preserved : goal.loop-i-preserved
@@ -49,11 +49,11 @@ loop-i-preserved c =
           elim c.if-i-from.branch [
             | then-i-from w ↦
                 w.entry-is
-                ∙ row_of_earlier plan core message c.args.self.now frame knows i p row c.row-row.ensures refl above
+                ∙ row_of_earlier plan core message frame i p row c.row-row.ensures refl (length c.args.self.now) knows.own above
                 (omega (arith, w.if-i-from.true, c.from-in-loop-i.ensures, c.count-count.ensures))
             | else-i-from w ↦
                 w.entry-is
-                ∙ row_of_own plan core message c.args.self.now frame knows i p row c.row-row.ensures refl
+                ∙ row_of_own plan core message frame i p row c.row-row.ensures refl
                 (omega (arith, w.if-i-from.false, c.from-in-loop-i.ensures, c.count-count.ensures))
           ] in
           subst (IsFinal plan core) (sym pushed) (final_push plan core items entry p final next same);
@@ -71,8 +71,8 @@ returns c =
     let was = c.loop-i.invariant in
     let few = c.requires in
     λ plan core frame knows.
-    let within = few_before plan core message c.args.self.now frame knows in
+    let within = few_before plan core message frame c.args.self.now knows in
     let end = c.loop-i.auto.i-end in
     let over = c.loop-i-test.false in
-    knows_all plan core message c.args.self.now frame knows c.loop-i.self-inside.entries.items (was.final plan core frame knows)
+    knows_all plan core message frame c.loop-i.self-inside.entries.items (was.final plan core frame knows)
     (omega (arith, was.here, before, len, counted, within, end, over, few, c.from-i-end.ensures, c.count-count.ensures))
