@@ -2,7 +2,7 @@
 ghost use Rattle.std.specs.Prelude.{◌≡◌, ◌≤◌, length, IfOk};
 
 use scr_base::{OutOfMemory, Row};
-use scr_plan::{Drops, RunPlan};
+use scr_plan::{Drops, Link, RunPlan};
 use std::alloc::Global;
 
 const SOURCES: u32 = 50;
@@ -40,5 +40,6 @@ pub fn plan_of(alloc: Global, cores: u32, count: u32) -> Result<RunPlan, OutOfMe
     ensures rows { IfOk result (λ plan. length plan.rows ≡ count) }
 {
     let rows = rows_of(alloc, count)?;
-    Ok(RunPlan::make(rows, cores, 0, Drops::none(alloc)))
+    let link = Link::dropping(alloc, Drops::none(alloc));
+    Ok(RunPlan::make(rows, cores, 0, link))
 }

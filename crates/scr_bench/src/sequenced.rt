@@ -1,18 +1,22 @@
 use crate::measure::Length;
 use crate::rows::made_up;
 use scr_base::OutOfMemory;
+use scr_plan::Fate;
 use scr_sequencer::Sequencer;
 use std::alloc::Global;
 
 const CORES: u32 = 7;
+
+/// What the link does with each frame.
+const ONCE: Fate = Fate::Once { delay: 0 };
 
 /// How many bytes the packets of so many frames have, of which none is dropped.
 pub fn bytes_sequenced(alloc: Global, length: Length) -> Result<u64, OutOfMemory> {
     let mut sequencer = Sequencer::make(alloc, CORES, length.history)?;
     let mut bytes = 0u64;
     for n in 0..length.frames {
-        if let Some(packet) = sequencer.next(made_up(n), false)?.packet {
-            bytes = bytes.wrapping_add(packet.bytes().len() as u64);
+        if let Some(frame) = sequencer.next(made_up(n), ONCE)?.own {
+            bytes = bytes.wrapping_add(frame.packet.bytes().len() as u64);
         }
     }
     Ok(bytes)

@@ -17,7 +17,7 @@ pub record Changes (how : End Route → End Route → Type 0) (core : ℕ) (old 
   pub ends : new.ends ≡ slice_set old.ends core end
   pub change : (before : End Route) → how (slice_index_or old.ends core before) end
 
--- the next number was taken, or the end behind the last; a packet was sent; the lane whose turn it is was full, by this
+-- the next step of the plan was taken, or the end behind the last; a packet was sent; the lane whose turn it is was full, by this
 -- call's look, and nothing else has changed; or all was sent before this call, which has done nothing
 abbrev pub StepTells : (old new : Feeding) → Step → Type 0
 StepTells old new Taken =

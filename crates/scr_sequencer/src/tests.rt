@@ -63,18 +63,6 @@ fn two_cores_and_a_dropped_frame(rt: HostRuntime) -> Result<(), Fail> {
 }
 
 #[test]
-fn no_beacon_has_the_number_of_the_end(rt: HostRuntime) -> Result<(), Fail> {
-    let mut sequencer = Sequencer::make(rt.alloc(), 1, 0)?;
-    for n in 0..256u32 {
-        let outgoing = sequencer.next(ROW, ONCE)?;
-        assert_eq!(rt; outgoing.beacon, None, "before frame {n}");
-        assert!(rt; outgoing.own.is_some() && outgoing.late.is_empty());
-    }
-    assert_eq!(rt; sequencer.finish().end(), 256);
-    Ok(())
-}
-
-#[test]
 fn a_beacon_after_each_256_numbers(rt: HostRuntime) -> Result<(), Fail> {
     let mut sequencer = Sequencer::make(rt.alloc(), 2, 0)?;
     for n in 0..600 {
