@@ -1,4 +1,4 @@
-"""`run threads=no` on one core and on many: its time, how it grows with the frames, and its memory."""
+"""`run threads=no` on one core and on many: its time, how it grows with the frames, and its memory; and what a link costs."""
 import collections
 import os
 
@@ -11,17 +11,26 @@ TRIES = 3
 ROW, OF_CORE = 56, 64
 # A run is left out where less than this times its memory is free, so that it pushes nobody out.
 FREE_TIMES = 2
+# How many pieces a list of the link has, and what a run over a link may cost, as times the same run without one.
+PIECES, MOST_LINK = 256, 1.5
 HEAD = ["", "frames", "ns each", "ns each, processor", "growth", "growth, processor", "peak, MB", "MB by the sizes"]
 
-Setting = collections.namedtuple("Setting", "cores history drop", defaults=[None, None])
+Setting = collections.namedtuple("Setting", "cores history drop repeat delay", defaults=[None] * 4)
 
 
-def many_drops():
-    """256 pieces that drop about one frame in ten, each piece some frames from front to end."""
-    return ",".join(f"{10 * piece + piece % 10 + 1}-1000000000/2560" for piece in range(256))
+def one_in_ten(shift):
+    """Pieces that have about one frame in ten, each piece some frames from front to end."""
+    return ",".join(f"{10 * piece + (piece + shift) % 10 + 1}-1000000000/{10 * PIECES}" for piece in range(PIECES))
 
 
-SETTINGS = [Setting(1), Setting(4), Setting(16), Setting(16, 64, many_drops())]
+def many_delays():
+    """Delays of 1 to 1,000 steps, of frames from front to end of the longest capture."""
+    return ",".join(f"{(piece + 1) * SIZES[-1] // (PIECES + 1)}:{(piece * 37) % 1_000 + 1}" for piece in range(PIECES))
+
+
+MANY_DROPS = one_in_ten(0)
+SETTINGS = [Setting(1), Setting(4), Setting(16), Setting(16, 64, MANY_DROPS)]
+OVER_A_LINK = Setting(16, None, MANY_DROPS, one_in_ten(5), many_delays())
 
 
 def words_of(setting):
@@ -63,6 +72,21 @@ def rows_of(program, setting, paths):
         each = [f"{1e9 * seconds / size:,.0f}" for seconds in times]
         yield [*start, *each, *growth, megabytes(1024 * peak_memory(call, path)), megabytes(expected)]
         before = times
+
+
+def over_a_link(program, folder):
+    """The table of a run over a link with three long lists, and of the same run without a link, in turns."""
+    frames, path = SIZES[-1], f"{folder}/linked"
+    if free_memory() * 1024 < FREE_TIMES * memory_of(OVER_A_LINK, frames):
+        return [["no room"]]
+    write_capture(path, frames)
+    calls = [[program, *words_of(setting)] for setting in (Setting(OVER_A_LINK.cores), OVER_A_LINK)]
+    rows = [["", "ns each without a link", "ns each over the link", "ratio"]]
+    for title, (without, over) in zip(("time", "processor"), best_times(calls, path)):
+        each = [f"{1e9 * seconds / frames:,.0f}" for seconds in (without, over)]
+        rows.append([title, *each, f"{over / without:.2f}" + (" above" if over > MOST_LINK * without else "")])
+    os.remove(path)
+    return rows
 
 
 def megabytes(count):
