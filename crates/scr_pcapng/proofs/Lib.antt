@@ -3,3 +3,4 @@ pub mod Heads
 pub mod Fronts
 pub mod OneReading
 pub mod SomeReading
+pub mod UnitOptions

@@ -5,3 +5,4 @@ pub mod Contents
 pub mod Reading
 pub mod Parts
 pub mod State
+pub mod Steps

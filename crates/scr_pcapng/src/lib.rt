@@ -24,12 +24,15 @@ mod content;
 mod contents;
 mod error;
 mod head;
+mod heading;
 mod kind;
 mod laws;
+mod options;
 mod padding;
 mod passing;
 mod progress;
 mod reader;
+mod taking;
 mod units;
 
 pub use content::{Content, InterfaceInfo};
