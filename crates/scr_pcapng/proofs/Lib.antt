@@ -3,6 +3,7 @@ pub mod Heads
 pub mod Fronts
 pub mod HeadsTaken
 pub mod BlockTaken
+pub mod Stepping
 pub mod OneReading
 pub mod SomeReading
 pub mod UnitOptions

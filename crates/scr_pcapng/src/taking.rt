@@ -2,7 +2,7 @@ ghost use Rattle.std.specs.Prelude.{◌≡◌, ◌≢◌, ◌≤◌, ◌<◌, �
 ghost use Rattle.std.specs.Io.KnownBytes.{IsAtEnd};
 ghost use Rattle.scr_pcap.specs.Taken.{GivesAtMost};
 ghost use Rattle.scr_pcapng.specs.Blocks.{BLOCKS, is_total};
-ghost use Rattle.scr_pcapng.specs.Contents.{captured_by, position_behind};
+ghost use Rattle.scr_pcapng.specs.Contents.{IsAccepted, captured_by, position_behind};
 ghost use Rattle.scr_pcapng.specs.Parts.{HasGivenHead, IsFaultAt, TakesBlock};
 ghost use Rattle.scr_pcapng.specs.State.{Answers, IsCounted, ahead, answer_of, faults_counted, left_of, most_of_block, progress_behind, reach, rest_in_blocks};
 ghost use Rattle.scr_pcapng.specs.Steps.{Steps, answer_with};
@@ -34,6 +34,7 @@ impl BlockReader {
             → HasGivenHead self.now.position front (S.left source.old) head.now.kind head.now.order head.now.total head.now.bytes
             → IsFaultAt self.now.position front result }
         ensures length { IfOk result (λ content. captured_by content ≡ length frame.new) }
+        ensures accepted { IfOk result (IsAccepted self.now.position) }
         ensures few { (front : Option (List ℕ))
             → HasGivenHead self.now.position front (S.left source.old) head.now.kind head.now.order head.now.total head.now.bytes
             → GivesAtMost head.now.total front (S.left source.new) }
@@ -55,6 +56,7 @@ impl BlockReader {
     // Goes behind a block.
     fn accept(&mut self, content: Content) -> Result<(), OutOfMemory>
         requires few { self.old.position.blocks < BLOCKS }
+        requires accepted { IsAccepted self.old.position content }
         ensures position { IfOk result (λ _. self.new.position ≡ position_behind self.old.position content) }
         ensures progress { self.new.progress ≡ self.old.progress }
         ensures unchanged { OnErr result (self.new ≡ self.old) }
