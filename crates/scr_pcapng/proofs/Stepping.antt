@@ -1,6 +1,6 @@
 -- How a reader of blocks goes on, one block after another.
 use Rattle.std.specs.Prelude.{⊤, All}
-use Rattle.std.proofs.Common.{◌≡◌, ℕ, ◌+◌, ◌*◌, ◌≤◌, ◌<◌, true, false, List, [], ◌∷◌, ◌++◌, length, Option, Some, None, Result, Ok, Err, IfSome, ◌==◌, if◌then◌else◌, append_assoc, refl, sym, ap, subst, ◌∙◌, arith}
+use Rattle.std.proofs.Common.{◌≡◌, ℕ, ◌+◌, ◌-◌, ◌*◌, ◌≤◌, ◌<◌, true, false, List, [], ◌∷◌, ◌++◌, length, Option, Some, None, Result, Ok, Err, IfSome, ◌==◌, if◌then◌else◌, append_assoc, refl, sym, ap, subst, ◌∙◌, arith}
 use Rattle.std.specs.List.{flat_map}
 use Rattle.std.proofs.lemmas.Bool.{eq-eqb, ne_eqb}
 use Rattle.std.proofs.lemmas.List.{append-nil, length-append}
@@ -8,7 +8,7 @@ use Rattle.std.specs.Io.KnownBytes.{Consumes, IsAtEnd}
 use Rattle.scr_pcap.specs.declared.reader.RecordInfo.{RecordInfo}
 use Rattle.scr_pcap.specs.Records.{Record}
 use Rattle.scr_pcap.specs.Taken.{GivesAtMost}
-use Rattle.scr_pcap.proofs.Taking.{Consumes-then}
+use Rattle.scr_pcap.proofs.Sizes.{GivesAtMost-more, GivesAtMost-then}
 use Rattle.scr_pcapng.specs.declared.content.Content.{Content}
 use Rattle.scr_pcapng.specs.declared.content.Content.TheVariants.{NewSection, NewInterface, Packet, Passed}
 use Rattle.scr_pcapng.specs.declared.error.AnyError.{AnyError}
@@ -16,12 +16,12 @@ use Rattle.scr_pcapng.specs.declared.error.AnyError.TheVariants.{Classic, Ng, Re
 use Rattle.scr_pcapng.specs.declared.error.NgError.{NgError}
 use Rattle.scr_pcapng.specs.declared.progress.Progress.{Progress}
 use Rattle.scr_pcapng.specs.declared.progress.Progress.TheVariants.{Reading, Ended, Refused}
-use Rattle.scr_pcapng.specs.Contents.{Position, position_behind, records_in, records_with}
+use Rattle.scr_pcapng.specs.Contents.{Position, captured_by, position_behind, records_with}
 use Rattle.scr_pcapng.specs.Blocks.{BLOCKS, Block, IsBlock}
 use Rattle.scr_pcapng.specs.Parts.{IsFaultOf, TakesBlock}
 use Rattle.scr_pcapng.specs.Reading.{IsFaultyRest, IsReadingFrom, IsRestInBlocks, block_records}
-use Rattle.scr_pcapng.specs.State.{BlockReaderState, IsCauseOf, LONGEST_BLOCK, ReadsOn, Rest, ahead, faults_counted, left_of, most_of_block, put_before, reach, rest_in_blocks}
-use Rattle.scr_pcapng.specs.Steps.{Steps, Tells, answer_with}
+use Rattle.scr_pcapng.specs.State.{BlockReaderState, IsCauseOf, IsCounted, LONGEST_BLOCK, ReadsOn, Rest, ahead, faults_counted, left_in, most_of_block, put_before, reach_in, rest_in_blocks}
+use Rattle.scr_pcapng.specs.Steps.{Steps, Tells, answer_with, info_in}
 
 -- the reading behind a block, with its records in front
 reading-behind : (position : Position) (b : Block) (behind : List ℕ) (records : List Record) (reading : Result (List Record) AnyError) → IsBlock position b
@@ -116,3 +116,145 @@ rest-faulty position left fault faulty = cause (ahead position left) fault fault
     cause front (Ng fault) faulty = cut front fault faulty
     cause front ReadFault faulty = tt
     cause front (OutOfMemory want) faulty = tt
+
+-- a step, by how far it has come
+pub Steps-from : (old : BlockReaderState) (left : Option (List ℕ)) (faults : ℕ) (new : BlockReaderState) (rest : Option (List ℕ)) (faults_now : ℕ) (frame : List ℕ)
+    (found : Option RecordInfo) (progress : Progress) → old.progress ≡ Reading → new.progress ≡ progress
+    → Tells (rest_in_blocks old.position left) (rest_in_blocks new.position rest) frame progress found
+    → IsCounted old.position.packets new.position.packets frame (answer_with progress found)
+    → faults_now ≡ faults_counted (answer_with progress found) faults
+    → ((start : Option (List ℕ)) → GivesAtMost (reach_in old.position Reading) start (ahead old.position left)
+    → GivesAtMost (reach_in new.position progress) start (left_in new.position progress rest))
+    → Steps old left faults new rest faults_now frame found
+Steps-from old left faults new rest faults_now frame found progress reading is tells counts faulty reaches = record {
+  tells = subst (λ (p : Progress). Tells (rest_in_blocks old.position left) (rest_in_blocks new.position rest) frame p found) (sym is) tells;
+  counts = subst (λ (p : Progress). IsCounted old.position.packets new.position.packets frame (answer_with p found)) (sym is) counts;
+  faulty = subst (λ (p : Progress). faults_now ≡ faults_counted (answer_with p found) faults) (sym is) faulty;
+  reaches = λ start before.
+      subst (λ (p : Progress). GivesAtMost (reach_in new.position p) start (left_in new.position p rest)) (sym is)
+      (reaches start (subst (λ (p : Progress). GivesAtMost (reach_in old.position p) start (left_in old.position p left)) reading before));
+}
+
+most-before_last : (position : Position) → position.blocks < BLOCKS → most_of_block position ≡ LONGEST_BLOCK
+most-before_last position few = let other : (position.blocks == BLOCKS) ≡ false = ne_eqb _ _ (λ all. absurd (omega arith)) in rw other refl
+
+reaches-block : (position : Position) (front rest start : Option (List ℕ)) → position.blocks < BLOCKS → GivesAtMost (most_of_block position) front rest
+    → GivesAtMost (position.blocks * LONGEST_BLOCK) start front → GivesAtMost ((position.blocks + 1) * LONGEST_BLOCK) start rest
+reaches-block position front rest start few more before =
+    let most = most-before_last position few in
+    let within = more.within in
+    let bounded : length more.front ≤ LONGEST_BLOCK = omega arith in
+    GivesAtMost-more _ _ start rest (omega arith) (GivesAtMost-then (position.blocks * LONGEST_BLOCK) LONGEST_BLOCK start front rest more.front before more.given bounded)
+
+pub blocks-behind : (position : Position) (content : Content) → (position_behind position content).blocks ≡ position.blocks + 1
+blocks-behind position (NewSection order) = refl
+blocks-behind position (NewInterface interface) = refl
+blocks-behind position (Packet time place captured) = refl
+blocks-behind position Passed = refl
+
+reaches-behind : (position next : Position) (content : Content) (left rest : Option (List ℕ)) → next ≡ position_behind position content → position.blocks < BLOCKS
+    → GivesAtMost (most_of_block position) (ahead position left) rest
+    → (start : Option (List ℕ)) → GivesAtMost (reach_in position Reading) start (ahead position left)
+    → GivesAtMost (reach_in next Reading) start (left_in next Reading rest)
+reaches-behind position next content left rest is few more = λ start before.
+    subst (λ (p : Position). GivesAtMost (reach_in p Reading) start (left_in p Reading rest)) (sym is)
+    (subst (λ (n : ℕ). GivesAtMost (n * LONGEST_BLOCK) start (ahead (position_behind position content) rest)) (sym (blocks-behind position content))
+    (subst (GivesAtMost ((position.blocks + 1) * LONGEST_BLOCK) start) (sym (ahead-behind position content rest))
+    (reaches-block position (ahead position left) rest start few more before)))
+
+-- what a block tells of the packets
+block-tells : (old left : Rest) (frame : List ℕ) (content : Content) (number : ℕ) → ReadsOn old left (records_with content frame)
+    → Tells old left frame Reading (info_in number content)
+block-tells old left frame (NewSection order) number reads = reads
+block-tells old left frame (NewInterface interface) number reads = reads
+block-tells old left frame (Packet time place captured) number reads = reads
+block-tells old left frame Passed number reads = reads
+
+block-counts : (position next : Position) (frame : List ℕ) (content : Content) → next ≡ position_behind position content → captured_by content ≡ length frame
+    → IsCounted position.packets next.packets frame (Ok (info_in next.packets content))
+block-counts position next frame (NewSection order) is sized = ap (λ (p : Position). p.packets) is
+block-counts position next frame (NewInterface interface) is sized = ap (λ (p : Position). p.packets) is
+block-counts position next frame (Packet time place captured) is sized = (ap (λ (p : Position). p.packets) is, ap (λ (p : Position). p.packets) is, sized)
+block-counts position next frame Passed is sized = ap (λ (p : Position). p.packets) is
+
+pub Steps-block : (old : BlockReaderState) (left : Option (List ℕ)) (faults : ℕ) (new : BlockReaderState) (rest : Option (List ℕ)) (faults_now : ℕ) (frame : List ℕ)
+    (content : Content) (found : Option RecordInfo) → found ≡ info_in new.position.packets content
+    → old.progress ≡ Reading → new.progress ≡ Reading → new.position ≡ position_behind old.position content → old.position.blocks < BLOCKS
+    → captured_by content ≡ length frame → TakesBlock old.position (ahead old.position left) rest content frame
+    → GivesAtMost (most_of_block old.position) (ahead old.position left) rest → faults_now ≡ faults → Steps old left faults new rest faults_now frame found
+Steps-block old left faults new rest faults_now frame content found is_found reading is next few sized block more same =
+    subst (λ (f : Option RecordInfo). Steps old left faults new rest faults_now frame f) (sym is_found)
+    (Steps-from old left faults new rest faults_now frame (info_in new.position.packets content) Reading reading is
+    (block-tells (rest_in_blocks old.position left) (rest_in_blocks new.position rest) frame content new.position.packets
+    (subst (λ (p : Position). ReadsOn (rest_in_blocks old.position left) (rest_in_blocks p rest) (records_with content frame)) (sym next)
+    (ReadsOn-block old.position left rest content frame block)))
+    (block-counts old.position new.position frame content next sized) same
+    (reaches-behind old.position new.position content left rest next few more))
+
+-- nothing is taken at the end
+none-at_end : (m : ℕ) (front rest : Option (List ℕ)) → IsAtEnd front → GivesAtMost m front rest → GivesAtMost 0 front rest
+none-at_end m None rest end more = record { front = []; given = tt; within = omega arith }
+none-at_end m (Some bytes) None end more = absurd more.given
+none-at_end m (Some bytes) (Some behind) end more =
+    let size : 0 ≡ length more.front + length behind = sym (ap length end) ∙ ap length more.given ∙ length-append more.front behind in
+    record { front = more.front; given = more.given; within = omega arith }
+
+reaches-more : (n m : ℕ) (front rest start : Option (List ℕ)) → GivesAtMost m front rest → GivesAtMost n start front → GivesAtMost (n + m) start rest
+reaches-more n m front rest start more before = GivesAtMost-then n m start front rest more.front before more.given more.within
+
+pub Steps-ended : (old : BlockReaderState) (left : Option (List ℕ)) (faults : ℕ) (new : BlockReaderState) (rest : Option (List ℕ)) (faults_now : ℕ) (frame : List ℕ)
+    → old.progress ≡ Reading → new.progress ≡ Ended → new.position ≡ old.position → IsAtEnd (ahead old.position left)
+    → GivesAtMost (most_of_block old.position) (ahead old.position left) rest → faults_now ≡ faults → Steps old left faults new rest faults_now frame None
+Steps-ended old left faults new rest faults_now frame reading is same end more same_faults =
+    Steps-from old left faults new rest faults_now frame None Ended reading is (rest-ended old.position left end)
+    (ap (λ (p : Position). p.packets) same) same_faults
+    (λ start before. subst (λ (p : Position). GivesAtMost (p.blocks * LONGEST_BLOCK) start rest) (sym same)
+    (GivesAtMost-more _ _ start rest (omega arith)
+    (reaches-more (old.position.blocks * LONGEST_BLOCK) 0 (ahead old.position left) rest start (none-at_end (most_of_block old.position) (ahead old.position left) rest end more) before)))
+
+pub Steps-refused : (old : BlockReaderState) (left : Option (List ℕ)) (faults : ℕ) (new : BlockReaderState) (rest : Option (List ℕ)) (faults_now : ℕ) (frame : List ℕ)
+    (error : AnyError) → old.progress ≡ Reading → new.progress ≡ Refused error → new.position ≡ old.position → IsFaultOf old.position (ahead old.position left) error
+    → GivesAtMost (most_of_block old.position) (ahead old.position left) rest → faults_now ≡ faults_counted {T = Option Content} (Err error) faults
+    → Steps old left faults new rest faults_now frame None
+Steps-refused old left faults new rest faults_now frame error reading is same faulty more counted =
+    Steps-from old left faults new rest faults_now frame None (Refused error) reading is (rest-faulty old.position left error faulty)
+    (ap (λ (p : Position). p.packets) same) (counted ∙ same_count error)
+    (λ start before. subst (λ (p : Position). GivesAtMost (p.blocks * LONGEST_BLOCK + most_of_block p) start rest) (sym same)
+    (reaches-more (old.position.blocks * LONGEST_BLOCK) (most_of_block old.position) (ahead old.position left) rest start more before))
+  where
+    same_count : (error : AnyError) → faults_counted {T = Option Content} (Err error) faults ≡ faults_counted {T = Option RecordInfo} (Err error) faults
+    same_count (Classic fault) = refl
+    same_count (Ng fault) = refl
+    same_count ReadFault = refl
+    same_count (OutOfMemory want) = refl
+
+-- nothing done yet
+pub Steps-none : (reader : BlockReaderState) (left : Option (List ℕ)) (faults : ℕ) (frame : List ℕ) → reader.progress ≡ Reading
+    → Steps reader left faults reader left faults frame None
+Steps-none reader left faults frame reading =
+    Steps-from reader left faults reader left faults frame None Reading reading reading (ReadsOn-none (rest_in_blocks reader.position left)) refl refl (λ start before. before)
+
+-- one step after another
+pub Steps-then : (old : BlockReaderState) (left : Option (List ℕ)) (faults : ℕ) (mid : BlockReaderState) (between : Option (List ℕ)) (faults_between : ℕ)
+    (new : BlockReaderState) (rest : Option (List ℕ)) (faults_now : ℕ) (frame other : List ℕ) (found : Option RecordInfo)
+    → Steps old left faults mid between faults_between other None → mid.progress ≡ Reading
+    → Steps mid between faults_between new rest faults_now frame found → Steps old left faults new rest faults_now frame found
+Steps-then old left faults mid between faults_between new rest faults_now frame other found first reading second =
+    let a = rest_in_blocks old.position left in
+    let b = rest_in_blocks mid.position between in
+    let reads : ReadsOn a b [] = subst (λ (p : Progress). Tells a b other p None) reading first.tells in
+    let packets : mid.position.packets ≡ old.position.packets =
+    subst (λ (p : Progress). IsCounted old.position.packets mid.position.packets other (answer_with p None)) reading first.counts in
+    let faulty : faults_between ≡ faults = subst (λ (p : Progress). faults_between ≡ faults_counted (answer_with p None) faults) reading first.faulty in
+    record {
+      tells = Tells-then a b (rest_in_blocks new.position rest) frame new.progress found reads second.tells;
+      counts = subst (λ (n : ℕ). IsCounted n new.position.packets frame (answer_with new.progress found)) packets second.counts;
+      faulty = subst (λ (n : ℕ). faults_now ≡ faults_counted (answer_with new.progress found) n) faulty second.faulty;
+      reaches = λ start before. second.reaches start (first.reaches start before);
+    }
+
+-- how many blocks a reader can still take, and the end
+abbrev pub rounds : Progress → ℕ → ℕ
+rounds Reading blocks = BLOCKS + 1 - blocks
+rounds Ended blocks = 0
+rounds (Refused fault) blocks = 0

@@ -3,9 +3,18 @@ use Rattle.std.specs.Prelude.{◌≡◌, ℕ, [], List, Option, Some, None, Resu
 use Rattle.scr_pcap.specs.declared.reader.RecordInfo.{RecordInfo}
 use Rattle.scr_pcap.specs.Taken.{GivesAtMost}
 use Rattle.scr_pcapng.specs.declared.error.AnyError.{AnyError}
+use Rattle.scr_pcapng.specs.declared.content.Content.{Content}
+use Rattle.scr_pcapng.specs.declared.content.Content.TheVariants.{NewSection, NewInterface, Packet, Passed}
 use Rattle.scr_pcapng.specs.declared.progress.Progress.{Progress}
 use Rattle.scr_pcapng.specs.declared.progress.Progress.TheVariants.{Reading, Ended, Refused}
 use Rattle.scr_pcapng.specs.State.{Answers, BlockReaderState, IsCounted, ReadsOn, Rest, faults_counted, left_of, reach, rest_in_blocks}
+
+-- the packet in a block, with this number
+abbrev pub info_in : (number : ℕ) → Content → Option RecordInfo
+info_in number (NewSection order) = None
+info_in number (NewInterface interface) = None
+info_in number (Packet time place captured) = Some (record { number = number; time = time; length = captured })
+info_in number Passed = None
 
 -- the answer of a reader that has come so far and found this
 abbrev pub answer_with : Progress → Option RecordInfo → Result (Option RecordInfo) AnyError

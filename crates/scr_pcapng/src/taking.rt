@@ -5,7 +5,7 @@ ghost use Rattle.scr_pcapng.specs.Blocks.{BLOCKS, is_total};
 ghost use Rattle.scr_pcapng.specs.Contents.{IsAccepted, captured_by, position_behind};
 ghost use Rattle.scr_pcapng.specs.Parts.{HasGivenHead, IsFaultAt, TakesBlock};
 ghost use Rattle.scr_pcapng.specs.State.{Answers, IsCounted, ahead, answer_of, faults_counted, left_of, most_of_block, progress_behind, reach, rest_in_blocks};
-ghost use Rattle.scr_pcapng.specs.Steps.{Steps, answer_with};
+ghost use Rattle.scr_pcapng.specs.Steps.{Steps, answer_with, info_in};
 
 use crate::content::Content;
 use crate::error::{AnyError, NgError};
@@ -120,6 +120,20 @@ impl BlockReader {
         Err(NgError::TooManyBlocks { limit: BLOCKS }.into())
     }
 
+    // The packet in a block that was taken, if it is one.
+    fn packet(&self, content: Content) -> Option<RecordInfo>
+        ensures { result ≡ info_in self.now.position.packets content }
+    {
+        match content {
+            Content::Packet { time, captured, .. } => Some(RecordInfo {
+                number: self.packets,
+                time,
+                length: captured,
+            }),
+            _ => None,
+        }
+    }
+
     // Takes the next block; a packet is answered, whose bytes `frame` then holds.
     #[inline(always)]
     fn advance<S: Source>(&mut self, source: &mut S, frame: &mut FrameBuf) -> Option<RecordInfo>
@@ -128,12 +142,7 @@ impl BlockReader {
         ensures on { self.new.progress ≡ Progress.Reading → self.new.position.blocks ≡ self.old.position.blocks + 1 }
     {
         match self.take_block(source, frame) {
-            Ok(Some(Content::Packet { time, captured, .. })) => Some(RecordInfo {
-                number: self.packets,
-                time,
-                length: captured,
-            }),
-            Ok(Some(_)) => None,
+            Ok(Some(content)) => self.packet(content),
             Ok(None) => {
                 self.progress = Progress::Ended;
                 None
