@@ -4,6 +4,7 @@ pub mod Fronts
 pub mod HeadsTaken
 pub mod BlockTaken
 pub mod Stepping
+pub mod EitherReading
 pub mod OneReading
 pub mod SomeReading
 pub mod UnitOptions

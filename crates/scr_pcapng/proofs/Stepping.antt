@@ -71,7 +71,7 @@ put_before-none : (records : List Record) (reading : Result (List Record) AnyErr
 put_before-none records (Ok others) = refl
 put_before-none records (Err fault) = refl
 
-put_none : (reading : Result (List Record) AnyError) → put_before [] reading ≡ reading
+pub put_none : (reading : Result (List Record) AnyError) → put_before [] reading ≡ reading
 put_none (Ok others) = refl
 put_none (Err fault) = refl
 

@@ -6,3 +6,4 @@ pub mod Reading
 pub mod Parts
 pub mod State
 pub mod Steps
+pub mod Either

@@ -20,6 +20,7 @@
 //! Ethernet frames of at most 262,144 bytes. Names, comments, statistics and other options are passed over.
 #![tactic(auto)]
 
+mod any;
 mod content;
 mod contents;
 mod error;
@@ -35,6 +36,7 @@ mod reader;
 mod taking;
 mod units;
 
+pub use any::AnyReader;
 pub use content::{Content, InterfaceInfo};
 pub use error::{AnyError, NgError};
 pub use laws::{one_reading, some_reading};
