@@ -5,6 +5,7 @@ use Rattle.std.proofs.lemmas.Bool.Decides.{Decides-eqb}
 use Rattle.std.proofs.lemmas.List.{append-nil, length-append, length-take-le, take_at}
 use Rattle.std.proofs.lemmas.Slice.Eq.{starts_is}
 use Rattle.std.specs.Io.KnownBytes.{Consumes, IsAtEnd, prepend_known}
+use lib.Pointwise.{pointwise}
 use Rattle.scr_pcap.specs.declared.error.CaptureError.{CaptureError}
 use Rattle.scr_pcap.specs.declared.error.CaptureError.TheVariants.{ShortHeader, Magic, Version, LinkType, ShortRecord, LongRecord, TooMany}
 use Rattle.scr_pcap.specs.declared.error.CaptureError.TheVariants as pcap_error
@@ -200,3 +201,8 @@ short-told (Some bytes) (Some behind) buf count taken end within short =
     read_in false bytes (Err (Classic ShortHeader))
     (not_in_blocks bytes (λ rest same. (let long : length bytes ≡ 4 + length rest = ap length same ∙ length-append SECTION rest in omega arith)))
     (inl (header-short bytes (omega arith)))
+
+pub other-first : (first : List ℕ) → false ≡ pointwise nat_eq first SECTION → first ≢ SECTION
+other-first first differs = λ same.
+    let both : false ≡ true = differs ∙ ap (λ (xs : List ℕ). pointwise nat_eq xs SECTION) same in
+    cc
