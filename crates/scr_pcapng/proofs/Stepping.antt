@@ -1,6 +1,6 @@
 -- How a reader of blocks goes on, one block after another.
 use Rattle.std.specs.Prelude.{⊤, All}
-use Rattle.std.proofs.Common.{◌≡◌, ℕ, ◌+◌, ◌-◌, ◌*◌, ◌≤◌, ◌<◌, true, false, List, [], ◌∷◌, ◌++◌, length, Option, Some, None, Result, Ok, Err, IfSome, ◌==◌, if◌then◌else◌, append_assoc, refl, sym, ap, subst, ◌∙◌, arith}
+use Rattle.std.proofs.Common.{◌≡◌, ℕ, ◌+◌, ◌-◌, ◌*◌, ◌≤◌, ◌<◌, true, false, List, [], ◌∷◌, ◌++◌, length, Option, Some, None, Result, Ok, Err, IfErr, IfSome, ◌==◌, if◌then◌else◌, append_assoc, refl, sym, ap, subst, ◌∙◌, arith}
 use Rattle.std.specs.List.{flat_map}
 use Rattle.std.proofs.lemmas.Bool.{eq-eqb, ne_eqb}
 use Rattle.std.proofs.lemmas.List.{append-nil, length-append}
@@ -20,7 +20,7 @@ use Rattle.scr_pcapng.specs.Contents.{Position, captured_by, position_behind, re
 use Rattle.scr_pcapng.specs.Blocks.{BLOCKS, Block, IsBlock}
 use Rattle.scr_pcapng.specs.Parts.{IsFaultOf, TakesBlock}
 use Rattle.scr_pcapng.specs.Reading.{IsFaultyRest, IsReadingFrom, IsRestInBlocks, block_records}
-use Rattle.scr_pcapng.specs.State.{BlockReaderState, IsCauseOf, IsCounted, LONGEST_BLOCK, ReadsOn, Rest, ahead, faults_counted, left_in, most_of_block, put_before, reach_in, rest_in_blocks}
+use Rattle.scr_pcapng.specs.State.{BlockReaderState, IsBlockCause, IsCauseOf, IsCounted, LONGEST_BLOCK, ReadsOn, Rest, ahead, faults_counted, left_in, most_of_block, put_before, reach_in, rest_in_blocks}
 use Rattle.scr_pcapng.specs.Steps.{Steps, Tells, answer_with, info_in}
 
 -- the reading behind a block, with its records in front
@@ -122,13 +122,14 @@ pub Steps-from : (old : BlockReaderState) (left : Option (List ℕ)) (faults : �
     (found : Option RecordInfo) (progress : Progress) → old.progress ≡ Reading → new.progress ≡ progress
     → Tells (rest_in_blocks old.position left) (rest_in_blocks new.position rest) frame progress found
     → IsCounted old.position.packets new.position.packets frame (answer_with progress found)
-    → faults_now ≡ faults_counted (answer_with progress found) faults
+    → IfErr (answer_with progress found) IsBlockCause → faults_now ≡ faults_counted (answer_with progress found) faults
     → ((start : Option (List ℕ)) → GivesAtMost (reach_in old.position Reading) start (ahead old.position left)
     → GivesAtMost (reach_in new.position progress) start (left_in new.position progress rest))
     → Steps old left faults new rest faults_now frame found
-Steps-from old left faults new rest faults_now frame found progress reading is tells counts faulty reaches = record {
+Steps-from old left faults new rest faults_now frame found progress reading is tells counts named faulty reaches = record {
   tells = subst (λ (p : Progress). Tells (rest_in_blocks old.position left) (rest_in_blocks new.position rest) frame p found) (sym is) tells;
   counts = subst (λ (p : Progress). IsCounted old.position.packets new.position.packets frame (answer_with p found)) (sym is) counts;
+  named = subst (λ (p : Progress). IfErr (answer_with p found) IsBlockCause) (sym is) named;
   faulty = subst (λ (p : Progress). faults_now ≡ faults_counted (answer_with p found) faults) (sym is) faulty;
   reaches = λ start before.
       subst (λ (p : Progress). GivesAtMost (reach_in new.position p) start (left_in new.position p rest)) (sym is)
@@ -188,7 +189,7 @@ Steps-block old left faults new rest faults_now frame content found is_found rea
     (block-tells (rest_in_blocks old.position left) (rest_in_blocks new.position rest) frame content new.position.packets
     (subst (λ (p : Position). ReadsOn (rest_in_blocks old.position left) (rest_in_blocks p rest) (records_with content frame)) (sym next)
     (ReadsOn-block old.position left rest content frame block)))
-    (block-counts old.position new.position frame content next sized) same
+    (block-counts old.position new.position frame content next sized) tt same
     (reaches-behind old.position new.position content left rest next few more))
 
 -- nothing is taken at the end
@@ -207,7 +208,7 @@ pub Steps-ended : (old : BlockReaderState) (left : Option (List ℕ)) (faults : 
     → GivesAtMost (most_of_block old.position) (ahead old.position left) rest → faults_now ≡ faults → Steps old left faults new rest faults_now frame None
 Steps-ended old left faults new rest faults_now frame reading is same end more same_faults =
     Steps-from old left faults new rest faults_now frame None Ended reading is (rest-ended old.position left end)
-    (ap (λ (p : Position). p.packets) same) same_faults
+    (ap (λ (p : Position). p.packets) same) tt same_faults
     (λ start before. subst (λ (p : Position). GivesAtMost (p.blocks * LONGEST_BLOCK) start rest) (sym same)
     (GivesAtMost-more _ _ start rest (omega arith)
     (reaches-more (old.position.blocks * LONGEST_BLOCK) 0 (ahead old.position left) rest start (none-at_end (most_of_block old.position) (ahead old.position left) rest end more) before)))
@@ -218,10 +219,15 @@ pub Steps-refused : (old : BlockReaderState) (left : Option (List ℕ)) (faults 
     → Steps old left faults new rest faults_now frame None
 Steps-refused old left faults new rest faults_now frame error reading is same faulty more counted =
     Steps-from old left faults new rest faults_now frame None (Refused error) reading is (rest-faulty old.position left error faulty)
-    (ap (λ (p : Position). p.packets) same) (counted ∙ same_count error)
+    (ap (λ (p : Position). p.packets) same) (block_cause (ahead old.position left) error faulty) (counted ∙ same_count error)
     (λ start before. subst (λ (p : Position). GivesAtMost (p.blocks * LONGEST_BLOCK + most_of_block p) start rest) (sym same)
     (reaches-more (old.position.blocks * LONGEST_BLOCK) (most_of_block old.position) (ahead old.position left) rest start more before))
   where
+    block_cause : (front : Option (List ℕ)) (error : AnyError) → IsFaultOf old.position front error → IsBlockCause error
+    block_cause front (Classic fault) faulty = absurd faulty
+    block_cause front (Ng fault) faulty = tt
+    block_cause front ReadFault faulty = tt
+    block_cause front (OutOfMemory want) faulty = tt
     same_count : (error : AnyError) → faults_counted {T = Option Content} (Err error) faults ≡ faults_counted {T = Option RecordInfo} (Err error) faults
     same_count (Classic fault) = refl
     same_count (Ng fault) = refl
@@ -232,7 +238,7 @@ Steps-refused old left faults new rest faults_now frame error reading is same fa
 pub Steps-none : (reader : BlockReaderState) (left : Option (List ℕ)) (faults : ℕ) (frame : List ℕ) → reader.progress ≡ Reading
     → Steps reader left faults reader left faults frame None
 Steps-none reader left faults frame reading =
-    Steps-from reader left faults reader left faults frame None Reading reading reading (ReadsOn-none (rest_in_blocks reader.position left)) refl refl (λ start before. before)
+    Steps-from reader left faults reader left faults frame None Reading reading reading (ReadsOn-none (rest_in_blocks reader.position left)) refl tt refl (λ start before. before)
 
 -- one step after another
 pub Steps-then : (old : BlockReaderState) (left : Option (List ℕ)) (faults : ℕ) (mid : BlockReaderState) (between : Option (List ℕ)) (faults_between : ℕ)
@@ -249,6 +255,7 @@ Steps-then old left faults mid between faults_between new rest faults_now frame 
     record {
       tells = Tells-then a b (rest_in_blocks new.position rest) frame new.progress found reads second.tells;
       counts = subst (λ (n : ℕ). IsCounted n new.position.packets frame (answer_with new.progress found)) packets second.counts;
+      named = second.named;
       faulty = subst (λ (n : ℕ). faults_now ≡ faults_counted (answer_with new.progress found) n) faulty second.faulty;
       reaches = λ start before. second.reaches start (first.reaches start before);
     }

@@ -14,7 +14,7 @@ use Rattle.scr_pcapng.specs.declared.error.AnyError.TheVariants as any_error
 use Rattle.scr_pcapng.specs.declared.progress.Progress.{Progress}
 use Rattle.scr_pcapng.specs.declared.progress.Progress.TheVariants.{Reading, Ended, Refused}
 use Rattle.scr_pcapng.specs.Reading.{IsReading}
-use Rattle.scr_pcapng.specs.State.{Rest, any_of, left_of, reach, rest_in_blocks}
+use Rattle.scr_pcapng.specs.State.{IsBlockCause, Rest, any_of, left_of, reach, rest_in_blocks}
 
 -- the readings of a whole capture
 abbrev pub reading_of : (left : Option (List ℕ)) → Rest
@@ -68,19 +68,26 @@ abbrev pub left_behind : AnyReader → Option (List ℕ) → Option (List ℕ)
 left_behind (Classic reader) left = left
 left_behind (Blocks reader) left = left_of reader left
 
--- a failure of the source isn't among the causes of a format
-abbrev pub IsNamed : AnyError → Type 0
-IsNamed (any_error.Classic pcap_error.ShortHeader) = ⊤
-IsNamed (any_error.Classic pcap_error.Magic) = ⊤
-IsNamed (any_error.Classic pcap_error.Version) = ⊤
-IsNamed (any_error.Classic pcap_error.LinkType) = ⊤
-IsNamed (any_error.Classic (pcap_error.ShortRecord number)) = ⊤
-IsNamed (any_error.Classic (pcap_error.LongRecord number length)) = ⊤
-IsNamed (any_error.Classic (pcap_error.TooMany limit)) = ⊤
-IsNamed (any_error.Classic pcap_error.ReadFault) = ⊥
-IsNamed (any_error.Ng fault) = ⊤
-IsNamed any_error.ReadFault = ⊤
-IsNamed (any_error.OutOfMemory want) = ⊤
+-- a cause of the libpcap file format, among which a failure of the source is none; and the causes of each format
+abbrev pub IsNamed : CaptureError → Type 0
+IsNamed pcap_error.ShortHeader = ⊤
+IsNamed pcap_error.Magic = ⊤
+IsNamed pcap_error.Version = ⊤
+IsNamed pcap_error.LinkType = ⊤
+IsNamed (pcap_error.ShortRecord number) = ⊤
+IsNamed (pcap_error.LongRecord number length) = ⊤
+IsNamed (pcap_error.TooMany limit) = ⊤
+IsNamed pcap_error.ReadFault = ⊥
+
+abbrev pub IsClassicCause : AnyError → Type 0
+IsClassicCause (any_error.Classic fault) = IsNamed fault
+IsClassicCause (any_error.Ng fault) = ⊥
+IsClassicCause any_error.ReadFault = ⊤
+IsClassicCause (any_error.OutOfMemory want) = ⊥
+
+abbrev pub IsCauseIn : AnyReader → AnyError → Type 0
+IsCauseIn (Classic reader) error = IsClassicCause error
+IsCauseIn (Blocks reader) error = IsBlockCause error
 
 -- what may come before any record
 abbrev pub IsBeginFault : AnyError → Type 0

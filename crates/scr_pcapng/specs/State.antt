@@ -64,6 +64,13 @@ IsCauseOf rest (any_error.Ng fault) = rest (Err (any_error.Ng fault))
 IsCauseOf rest any_error.ReadFault = ⊤
 IsCauseOf rest (any_error.OutOfMemory want) = ⊤
 
+-- the causes of a capture in blocks
+abbrev pub IsBlockCause : AnyError → Type 0
+IsBlockCause (any_error.Classic fault) = ⊥
+IsBlockCause (any_error.Ng fault) = ⊤
+IsBlockCause any_error.ReadFault = ⊤
+IsBlockCause (any_error.OutOfMemory want) = ⊤
+
 -- what an answer tells of the capture, from the place before a call and that behind it: a packet stands in front, with these
 -- bytes; nothing is left; or the reading ends in this cause
 abbrev pub Answers : (old new : Rest) (frame : List ℕ) → Result (Option RecordInfo) AnyError → Type 0

@@ -1,5 +1,5 @@
 -- What a reader of blocks does between two moments, by what it found: a packet, or none yet.
-use Rattle.std.specs.Prelude.{◌≡◌, ℕ, [], List, Option, Some, None, Result, Ok, Err}
+use Rattle.std.specs.Prelude.{◌≡◌, ℕ, [], List, Option, Some, None, Result, Ok, Err, IfErr}
 use Rattle.scr_pcap.specs.declared.reader.RecordInfo.{RecordInfo}
 use Rattle.scr_pcap.specs.Taken.{GivesAtMost}
 use Rattle.scr_pcapng.specs.declared.error.AnyError.{AnyError}
@@ -7,7 +7,7 @@ use Rattle.scr_pcapng.specs.declared.content.Content.{Content}
 use Rattle.scr_pcapng.specs.declared.content.Content.TheVariants.{NewSection, NewInterface, Packet, Passed}
 use Rattle.scr_pcapng.specs.declared.progress.Progress.{Progress}
 use Rattle.scr_pcapng.specs.declared.progress.Progress.TheVariants.{Reading, Ended, Refused}
-use Rattle.scr_pcapng.specs.State.{Answers, BlockReaderState, IsCounted, ReadsOn, Rest, faults_counted, left_of, reach, rest_in_blocks}
+use Rattle.scr_pcapng.specs.State.{Answers, BlockReaderState, IsBlockCause, IsCounted, ReadsOn, Rest, faults_counted, left_of, reach, rest_in_blocks}
 
 -- the packet in a block, with this number
 abbrev pub info_in : (number : ℕ) → Content → Option RecordInfo
@@ -34,5 +34,6 @@ pub record Steps (old : BlockReaderState) (left : Option (List ℕ)) (faults : �
     (frame : List ℕ) (found : Option RecordInfo) : Type 0 where
   pub tells : Tells (rest_in_blocks old.position left) (rest_in_blocks new.position rest) frame new.progress found
   pub counts : IsCounted old.position.packets new.position.packets frame (answer_with new.progress found)
+  pub named : IfErr (answer_with new.progress found) IsBlockCause
   pub faulty : faults_now ≡ faults_counted (answer_with new.progress found) faults
   pub reaches : (start : Option (List ℕ)) → GivesAtMost (reach old) start (left_of old left) → GivesAtMost (reach new) start (left_of new rest)

@@ -2,7 +2,7 @@ ghost use Rattle.std.specs.Prelude.{◌≡◌, ℕ, List, [], length, Option, Ok
 ghost use Rattle.scr_pcap.specs.Header.{HEADER_SIZE};
 ghost use Rattle.scr_pcap.specs.State as pcap;
 ghost use Rattle.scr_pcap.specs.Taken.{GivesAtMost};
-ghost use Rattle.scr_pcapng.specs.Either.{IsBeginFault, IsNamed, left_behind, most_of, progress_in, progress_of, reading_of, records_of, rest_behind, rest_of};
+ghost use Rattle.scr_pcapng.specs.Either.{IsBeginFault, IsCauseIn, IsClassicCause, left_behind, most_of, progress_in, progress_of, reading_of, records_of, rest_behind, rest_of};
 ghost use Rattle.scr_pcapng.specs.State.{Answers, IsCauseOf, IsCounted, ReadsOn, answer_of, faults_counted, progress_behind};
 
 use crate::error::AnyError;
@@ -57,6 +57,7 @@ impl AnyReader {
 
         ensures answers { progress_of self.old ≡ Progress.Reading
             → Answers (rest_of self.old (S.left source.old)) (rest_of self.new (S.left source.new)) frame.new result }
+        ensures named { progress_of self.old ≡ Progress.Reading → IfErr result (IsCauseIn self.old) }
         ensures counted { progress_of self.old ≡ Progress.Reading → IsCounted (records_of self.old) (records_of self.new) frame.new result }
         ensures progress { progress_of self.old ≡ Progress.Reading → progress_of self.new ≡ progress_behind result }
 
@@ -83,6 +84,7 @@ fn next_classic<S: Source>(
     ensures again { IfSome (answer_of (progress_in reader.old.progress)) (λ answer. (result ≡ answer) × (reader.new ≡ reader.old) × (source.new ≡ source.old)) }
     ensures answers { progress_in reader.old.progress ≡ Progress.Reading
         → Answers (rest_behind reader.old (S.left source.old)) (rest_behind reader.new (S.left source.new)) frame.new result }
+    ensures named { progress_in reader.old.progress ≡ Progress.Reading → IfErr result IsClassicCause }
     ensures counted { progress_in reader.old.progress ≡ Progress.Reading → IsCounted reader.old.taken reader.new.taken frame.new result }
     ensures progress { progress_in reader.old.progress ≡ Progress.Reading → progress_in reader.new.progress ≡ progress_behind result }
     ensures reach { (start : Option (List ℕ)) → GivesAtMost (pcap.reach reader.old) start (S.left source.old)

@@ -34,6 +34,8 @@ mod passing;
 mod progress;
 mod reader;
 mod taking;
+#[cfg(test)]
+mod tests;
 mod units;
 
 pub use any::AnyReader;

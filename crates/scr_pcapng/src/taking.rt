@@ -4,7 +4,7 @@ ghost use Rattle.scr_pcap.specs.Taken.{GivesAtMost};
 ghost use Rattle.scr_pcapng.specs.Blocks.{BLOCKS, is_total};
 ghost use Rattle.scr_pcapng.specs.Contents.{IsAccepted, captured_by, position_behind};
 ghost use Rattle.scr_pcapng.specs.Parts.{HasGivenHead, IsFaultAt, TakesBlock};
-ghost use Rattle.scr_pcapng.specs.State.{Answers, IsCounted, ahead, answer_of, faults_counted, left_of, most_of_block, progress_behind, reach, rest_in_blocks};
+ghost use Rattle.scr_pcapng.specs.State.{Answers, IsBlockCause, IsCounted, ahead, answer_of, faults_counted, left_of, most_of_block, progress_behind, reach, rest_in_blocks};
 ghost use Rattle.scr_pcapng.specs.Steps.{Steps, answer_with, info_in};
 
 use crate::content::Content;
@@ -188,6 +188,7 @@ impl BlockReader {
         ensures again { IfSome (answer_of self.old.progress) (λ answer. (result ≡ answer) × (self.new ≡ self.old) × (source.new ≡ source.old)) }
         ensures answers { self.old.progress ≡ Progress.Reading
             → Answers (rest_in_blocks self.old.position (S.left source.old)) (rest_in_blocks self.new.position (S.left source.new)) frame.new result }
+        ensures named { self.old.progress ≡ Progress.Reading → IfErr result IsBlockCause }
         ensures counted { self.old.progress ≡ Progress.Reading
             → IsCounted self.old.position.packets self.new.position.packets frame.new result }
         ensures progress { self.old.progress ≡ Progress.Reading → self.new.progress ≡ progress_behind result }
