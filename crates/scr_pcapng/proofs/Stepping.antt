@@ -110,6 +110,7 @@ rest-faulty position left fault faulty = cause (ahead position left) fault fault
         → IfSome front (λ bytes. IsReadingFrom position bytes (Err fault))
     cut None fault faulty = tt
     cut (Some bytes) fault faulty = record { blocks = []; rest = bytes; spelled = refl; faulty = faulty }
+
     cause : (front : Option (List ℕ)) (fault : AnyError) → IsFaultOf position front fault
         → IsCauseOf (λ reading. IfSome front (λ bytes. IsRestInBlocks position bytes reading)) fault
     cause front (Classic fault) faulty = absurd faulty
@@ -228,6 +229,7 @@ Steps-refused old left faults new rest faults_now frame error reading is same fa
     block_cause front (Ng fault) faulty = tt
     block_cause front ReadFault faulty = tt
     block_cause front (OutOfMemory want) faulty = tt
+
     same_count : (error : AnyError) → faults_counted {T = Option Content} (Err error) faults ≡ faults_counted {T = Option RecordInfo} (Err error) faults
     same_count (Classic fault) = refl
     same_count (Ng fault) = refl

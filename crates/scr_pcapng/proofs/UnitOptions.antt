@@ -57,7 +57,7 @@ found_in : (o : BlockOption) (xs : List BlockOption)
     → option_map (λ (o : BlockOption). slice_index o.value 0) (find tells_unit (o ∷ xs))
     ≡ (if tells_unit o then Some (slice_index o.value 0) else option_map (λ (o : BlockOption). slice_index o.value 0) (find tells_unit xs))
 found_in o xs =
-    elim (cases_Bool (tells_unit o)) [ | inl tells ↦ rw tells refl | inr other ↦ rw other refl ]
+    elim (cases_Bool (tells_unit o)) [ inl tells ↦ rw tells refl | inr other ↦ rw other refl ]
 
 unit_in-at : (order : Order) (most : ℕ) (bytes : List ℕ) → length bytes ≡ suc most → stops order bytes ≡ false
     → unit_in order bytes ≡ unit_from order (option_in order bytes) (drop (option_end order bytes) bytes)

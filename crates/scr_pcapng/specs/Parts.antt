@@ -70,13 +70,6 @@ pub record TakesOptions (old new : Option (List ℕ)) (kind : Kind) (order : Ord
   pub all : length bytes ≡ options_size kind total
   pub told : kind ≡ InterfaceDescription → unit ≡ unit_in order bytes
 
--- a source gave the bytes of a packet, or nothing
-pub record TakesFrame (old new : Option (List ℕ)) (content : Content) (frame : List ℕ) : Type 0 where
-  pub bytes : List ℕ
-  pub taken : Consumes old new bytes
-  pub all : length bytes ≡ captured_by content
-  pub told : records_with content bytes ≡ records_with content frame
-
 -- a source gave the block that stands there, with this content and, of a packet, these bytes
 pub record TakesBlock (position : Position) (old new : Option (List ℕ)) (content : Content) (frame : List ℕ) : Type 0 where
   pub bytes : List ℕ
@@ -88,7 +81,6 @@ pub record TakesBlock (position : Position) (old new : Option (List ℕ)) (conte
 pub record HasGivenHead (position : Position) (old new : Option (List ℕ)) (kind : Kind) (order : Order) (total : ℕ) (head : List ℕ) : Type 0 where
   pub is : IfSome old (λ bytes. IsHead position bytes kind order total)
   pub taken : Consumes old new (take (head_of kind) head)
-
 
 -- why bytes of the block with this number weren't taken: the end, or a failure of the source
 abbrev pub IsStop : (block : ℕ) → Option (List ℕ) → AnyError → Type 0

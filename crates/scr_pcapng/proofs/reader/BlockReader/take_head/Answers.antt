@@ -262,4 +262,3 @@ returns-clause-few g c =
     let bound = head_of-most c.of-kind.result in
     let within_size = last.within.1 in
     at_most _ _ c.fill_on-2.new.buf c.in_ok-fill_on-2.field-0 28 taken_head within_head (omega arith)
-
