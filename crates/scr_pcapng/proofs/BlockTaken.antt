@@ -1,12 +1,11 @@
 -- A block that was taken in parts: its head, its options, the bytes of its packet, and its end.
 use Rattle.std.specs.Prelude.{⊤}
-use Rattle.std.proofs.Common.{◌≡◌, ◌≢◌, ◌⊎◌, inl, inr, ◌∷◌, ℕ, ◌+◌, ◌-◌, ◌*◌, ◌^◌, ◌≤◌, ◌<◌, Bool, true, false, not, ◌||◌, List, [], ◌++◌, length, take, drop, Option, Some, None, Result, Ok, Err, IfSome, IfOk, ◌==◌, nat_lt, slice_get, if◌then◌else◌, append_assoc, refl, sym, ap, subst, ◌∙◌, arith}
+use Rattle.std.proofs.Common.{◌≡◌, ◌≢◌, ◌⊎◌, inl, inr, ◌∷◌, ℕ, ◌+◌, ◌-◌, ◌*◌, ◌^◌, ◌≤◌, Bool, true, false, not, List, [], ◌++◌, length, take, drop, Option, Some, None, Result, Ok, Err, IfSome, IfOk, ◌==◌, slice_get, if◌then◌else◌, refl, sym, ap, subst, ◌∙◌, arith}
 use Rattle.std.proofs.lemmas.Bool.{eq-eqb, ne_eqb}
 use Rattle.std.proofs.lemmas.List.{append-nil, drop_at, length-append, length-take-le, take-append-drop, take_at}
-use Rattle.std.specs.Io.KnownBytes.{Consumes, IsAtEnd}
+use Rattle.std.specs.Io.KnownBytes.{Consumes}
 use Rattle.scr_pcap.specs.declared.format.Order.{Order}
 use Rattle.scr_pcap.specs.Header.{number_at}
-use Rattle.scr_pcap.specs.Records.{CAPTURED}
 use Rattle.scr_pcap.specs.Taken.{GivesAtMost, GivesFewer}
 use Rattle.scr_pcap.proofs.FirstBytes.{number_at-append}
 use Rattle.scr_pcap.proofs.Taking.{Consumes-then}
@@ -20,13 +19,13 @@ use Rattle.scr_pcapng.specs.declared.error.NgError.TheVariants.{Cut, Length, Res
 use Rattle.scr_pcapng.specs.declared.kind.Kind.{Kind}
 use Rattle.scr_pcapng.specs.declared.kind.Kind.TheVariants.{SectionHeader, InterfaceDescription, SimplePacket, EnhancedPacket, Other}
 use Rattle.scr_pcapng.specs.Contents.{IsPlaced, Position, captured_by, content_by, content_in, cut_to, enhanced_on, interface_with, number_of, option_bytes, packet_on, records_in, records_with, simple_on}
-use Rattle.scr_pcapng.specs.Blocks.{Block, IsBlock, block_in, closed, front_of, head_of, is_total, least, sized, told_by}
+use Rattle.scr_pcapng.specs.Blocks.{block_in, closed, head_of, is_total, sized, told_by}
 use Rattle.scr_pcapng.specs.Options.{unit_in}
-use Rattle.scr_pcapng.specs.Parts.{HasGivenHead, IsFaultOf, IsHead, IsStop, TakesBlock, TakesBytes, TakesOptions, TakesTail, captured_of, options_size}
+use Rattle.scr_pcapng.specs.Parts.{HasGivenHead, IsFaultOf, IsHead, IsStop, TakesBlock, TakesOptions, TakesTail, captured_of, options_size}
 use Rattle.scr_pcapng.specs.Reading.{IsFaultyRest}
 use Rattle.scr_pcapng.specs.Units.{MICROSECONDS, is_beyond, microseconds, units_of}
-use Rattle.scr_pcapng.proofs.Heads.{IsHead-front, block_in-sized, front_of-least, front_of-within, is_total-least}
-use Rattle.scr_pcapng.proofs.HeadsTaken.{IsFaultyRest-from, behind_taken, cut-behind_head, head_of-within, map_some}
+use Rattle.scr_pcapng.proofs.Heads.{IsHead-front, block_in-sized, front_of-within, is_total-least}
+use Rattle.scr_pcapng.proofs.HeadsTaken.{IsFaultyRest-from, behind_taken, cut-behind_head, head_of-within}
 use Rattle.scr_pcapng.proofs.Fronts.{sized-whole}
 use Rattle.scr_pcapng.proofs.Taken.{number_at-behind}
 

@@ -14,12 +14,12 @@ use Rattle.scr_pcap.specs.declared.reader.Progress as classic
 use Rattle.scr_pcap.specs.declared.reader.Progress.TheVariants as classic_progress
 use Rattle.scr_pcap.specs.declared.reader.RecordInfo.{RecordInfo}
 use Rattle.scr_pcap.specs.Header.{header_of}
-use Rattle.scr_pcap.specs.Records.{Record, RECORDS, BeginWith, IsFaultyRest, IsRecord, TakesRecord}
+use Rattle.scr_pcap.specs.Records.{Record, RECORDS, IsFaultyRest, IsRecord, TakesRecord}
 use Rattle.scr_pcap.specs.State.{ReaderState}
 use Rattle.scr_pcapng.specs.declared.error.AnyError.{AnyError}
 use Rattle.scr_pcapng.specs.declared.error.AnyError.TheVariants.{Classic, Ng, ReadFault, OutOfMemory}
 use Rattle.scr_pcapng.specs.declared.progress.Progress.TheVariants.{Reading}
-use Rattle.scr_pcapng.specs.Either.{IsCutBehind, IsRestBehind, progress_in, reading_of, rest_behind}
+use Rattle.scr_pcapng.specs.Either.{IsRestBehind, progress_in, reading_of, rest_behind}
 use Rattle.scr_pcapng.specs.Reading.{IsBlockReading, IsClassicReading, IsReading, IsRestInBlocks, SECTION, START, is_in_blocks}
 use Rattle.scr_pcapng.specs.State.{Answers, IsCauseOf, ReadsOn, Rest, any_of, put_before, rest_in_blocks}
 use Rattle.scr_pcapng.proofs.Stepping.{put_none}

@@ -1,9 +1,8 @@
 -- What the first bytes that were read of a block tell of all that a source had from there on.
-use Rattle.std.proofs.Common.{◌≡◌, ◌≢◌, ℕ, ◌+◌, ◌≤◌, ◌<◌, true, false, List, [], ◌++◌, length, take, drop, Option, Some, None, Ok, Err, IfSome, refl, sym, ap, subst, ◌∙◌, arith}
+use Rattle.std.proofs.Common.{◌≡◌, ◌≢◌, ℕ, ◌+◌, ◌≤◌, ◌<◌, true, false, List, ◌++◌, length, take, drop, Option, Some, None, Err, IfSome, refl, sym, ap, subst, ◌∙◌, arith}
 use Rattle.std.proofs.lemmas.List.{append-nil, length-append, length-take-le, take-append-drop}
 use Rattle.std.specs.Io.KnownBytes.{Consumes, IsAtEnd}
 use Rattle.scr_pcap.specs.declared.format.Order.{Order}
-use Rattle.scr_pcap.specs.Header.{number_at}
 use Rattle.scr_pcap.specs.Taken.{GivesAtMost, GivesFewer}
 use Rattle.scr_pcap.proofs.Taking.{Consumes-then}
 use Rattle.scr_pcapng.specs.declared.error.AnyError.{AnyError}
@@ -14,9 +13,9 @@ use Rattle.scr_pcapng.specs.declared.kind.Kind.{Kind}
 use Rattle.scr_pcapng.specs.declared.kind.Kind.TheVariants.{SectionHeader, InterfaceDescription, SimplePacket, EnhancedPacket, Other}
 use Rattle.scr_pcapng.specs.Contents.{Position, number_of}
 use Rattle.scr_pcapng.specs.Blocks.{BLOCKS, block_in, framed, front_of, head_of, is_total, kind_in, least, order_in, sized, total_in}
-use Rattle.scr_pcapng.specs.Parts.{HasGivenHead, IsFaultOf, IsHead}
+use Rattle.scr_pcapng.specs.Parts.{IsFaultOf, IsHead}
 use Rattle.scr_pcapng.specs.Reading.{IsFaultyRest}
-use Rattle.scr_pcapng.proofs.Heads.{IsHead-append, block_in-full, block_in-odd, block_in-short, block_in-sized, block_in-unmarked, front_of-least, kind_in-append, order_in-append, total_in-append}
+use Rattle.scr_pcapng.proofs.Heads.{block_in-full, block_in-odd, block_in-short, block_in-sized, block_in-unmarked, front_of-least, kind_in-append, order_in-append, total_in-append}
 use Rattle.scr_pcapng.proofs.Fronts.{NoBlock-from_fault}
 use Rattle.std.proofs.lemmas.Bool.{lt-ltb}
 

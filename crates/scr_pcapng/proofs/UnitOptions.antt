@@ -1,6 +1,6 @@
 -- How the options of an interface tell the unit of its times, one option after another.
 use Rattle.std.specs.Prelude.{⊤}
-use Rattle.std.proofs.Common.{◌≡◌, ◌≢◌, ◌⊎◌, append_assoc, subst, ℕ, zero, suc, ◌+◌, ◌*◌, ◌/◌, ◌-◌, ◌≤◌, ◌<◌, Bool, true, false, ◌&&◌, ◌||◌, List, [], ◌∷◌, ◌++◌, length, take, drop, slice_index, find, Option, Some, None, ◌==◌, nat_lt, if◌then◌else◌, refl, sym, ap, ◌∙◌, inl, inr, arith}
+use Rattle.std.proofs.Common.{◌≡◌, ◌≢◌, ◌⊎◌, append_assoc, subst, ℕ, zero, suc, ◌+◌, ◌-◌, ◌≤◌, ◌<◌, Bool, true, false, ◌&&◌, ◌||◌, List, [], ◌∷◌, ◌++◌, length, take, drop, slice_index, find, Option, Some, None, ◌==◌, nat_lt, if◌then◌else◌, refl, sym, ap, ◌∙◌, inl, inr, arith}
 use Rattle.std.specs.Option.{option_map}
 use Rattle.std.proofs.lemmas.Bool.{cases_Bool, eq-eqb, le-ltb, lt-ltb, ltb-false, ne_eqb}
 use Rattle.std.proofs.lemmas.List.{drop_at, length-append, length-drop, length-take-le, take-append-le}
@@ -13,7 +13,7 @@ use Rattle.scr_pcapng.specs.Parts.{TakesBytes, TakesOption, TakesUnit, taken_by,
 use Rattle.scr_pcapng.specs.declared.options.Found.{Found}
 use Rattle.scr_pcap.specs.Taken.{GivesFewer}
 use Rattle.scr_pcapng.proofs.Taken.{GivesFewer-then}
-use Rattle.scr_pcapng.specs.Options.{BlockOption, code_in, length_in, option_in, option_end, options_in, options_up_to, padded, stops, tells_unit, unit_in}
+use Rattle.scr_pcapng.specs.Options.{BlockOption, code_in, length_in, option_in, option_end, options_up_to, padded, stops, tells_unit, unit_in}
 
 -- with fewer than four bytes the list stops
 pub stops-short : (order : Order) (bytes : List ℕ) → length bytes < 4 → stops order bytes ≡ true

@@ -4,7 +4,6 @@ use Rattle.std.specs.Io.KnownBytes.{prepend_known}
 use Rattle.scr_base.specs.Causes.{counted}
 use Rattle.scr_pcap.specs.declared.reader.RecordInfo.{RecordInfo}
 use Rattle.scr_pcap.specs.Records.{Record}
-use Rattle.scr_pcap.specs.Taken.{GivesAtMost}
 use Rattle.scr_pcapng.specs.declared.error.AnyError.{AnyError}
 use Rattle.scr_pcapng.specs.declared.error.AnyError.TheVariants as any_error
 use Rattle.scr_pcap.specs.declared.error.CaptureError.{CaptureError}

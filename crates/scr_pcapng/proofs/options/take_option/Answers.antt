@@ -1,8 +1,6 @@
-use Rattle.std.proofs.Common.{◌≡◌, ◌≢◌, ◌+◌, ◌-◌, ◌≤◌, ◌<◌, ◌⊎◌, ℕ, length, ap, sym, subst, ◌∙◌, inl, inr, arith}
+use Rattle.std.proofs.Common.{◌≡◌, ◌≢◌, ◌-◌, ◌<◌, ◌⊎◌, ℕ, length, ap, sym, subst, ◌∙◌, inl, inr, arith}
 use Rattle.std.proofs.lemmas.Grind.{common_steps}
 use Rattle.scr_pcapng.specs.Options.{code_in, length_in, padded}
-use Rattle.scr_pcapng.specs.Parts.{TakesBytes, TakesOption}
-use Rattle.scr_pcapng.specs.declared.options.Found.TheVariants as found
 use Rattle.scr_pcapng.proofs.Taken.{GivesFewer-more, GivesFewer-then, TakesBytes-from, any_on_err}
 use Rattle.scr_pcapng.proofs.UnitOptions.{TakesOption-another, TakesOption-last, TakesOption-unit}
 use Rattle.scr_pcapng.proofs.options.take_option.Goals as goal

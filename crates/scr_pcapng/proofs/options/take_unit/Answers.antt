@@ -1,7 +1,7 @@
-use Rattle.std.proofs.Common.{◌≡◌, ◌⊎◌, ◌+◌, ◌-◌, ◌≤◌, ◌<◌, sym, subst, ◌∙◌, inl, inr, arith}
+use Rattle.std.proofs.Common.{◌⊎◌, ◌<◌, subst, ◌∙◌, inl, inr, arith}
 use Rattle.scr_pcapng.specs.Parts.{TakesUnit}
 use Rattle.scr_pcapng.proofs.Taken.{any_on_err}
-use Rattle.scr_pcapng.proofs.UnitOptions.{IsLast, IsLast-from, no_unit, not_both, TakesOption-fewer, TakesOption-none, TakesOption-then, TakesUnit-from}
+use Rattle.scr_pcapng.proofs.UnitOptions.{IsLast, IsLast-from, no_unit, not_both, TakesOption-fewer, TakesOption-then, TakesUnit-from}
 use Rattle.scr_pcapng.proofs.options.take_unit.Goals as goal
 use Rattle.scr_pcapng.proofs.options.take_unit.Goals.{then-loop-left-test+else-matches, in-Another, in_default, else-loop-left-test}
 

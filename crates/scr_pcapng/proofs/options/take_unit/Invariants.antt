@@ -1,4 +1,4 @@
-use Rattle.std.proofs.Common.{◌≡◌, ◌≤◌, ◌+◌, ◌-◌}
+use Rattle.std.proofs.Common.{◌≡◌, ◌≤◌}
 use Rattle.scr_pcapng.specs.Parts.{TakesOption}
 use Rattle.scr_pcapng.proofs.options.take_unit.Given as goal
 

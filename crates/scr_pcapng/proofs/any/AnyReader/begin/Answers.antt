@@ -1,11 +1,8 @@
-use Rattle.std.proofs.Common.{◌≡◌, ◌≢◌, ℕ, ◌≤◌, List, length, take, refl, sym, ap, subst, ◌∙◌, arith}
+use Rattle.std.proofs.Common.{◌≡◌, length, take, subst, arith}
 use Rattle.std.proofs.lemmas.Grind.{common_steps}
 use Rattle.std.proofs.lemmas.List.{take_all}
 use Rattle.std.proofs.lemmas.Result.{err_from_is_err_and}
 use Rattle.std.specs.Io.KnownBytes.{Consumes}
-use Rattle.scr_pcapng.specs.Either.{reading_of}
-use Rattle.scr_pcapng.specs.Reading.{SECTION}
-use Rattle.scr_pcapng.specs.State.{IsCauseOf}
 use Rattle.scr_pcapng.proofs.EitherReading.{ReadsOn-classic, other-first, refused-classic, short-told}
 use Rattle.scr_pcapng.proofs.any.AnyReader.begin.Goals as goal
 

@@ -1,6 +1,6 @@
-use Rattle.std.proofs.Common.{◌≡◌, ◌+◌, Some, None, refl, sym, ap, subst, ◌∙◌}
+use Rattle.std.proofs.Common.{refl, ap, ◌∙◌}
 use Rattle.scr_pcapng.specs.State.{BlockReaderState}
-use Rattle.scr_pcapng.proofs.Stepping.{Steps-block, Steps-ended, Steps-refused, blocks-behind}
+use Rattle.scr_pcapng.proofs.Stepping.{Steps-block, Steps-refused}
 use Rattle.scr_pcapng.proofs.reader.BlockReader.advance.Goals as goal
 
 pub returns-in-Err-clause-steps : goal.returns-in-Err-clause-steps

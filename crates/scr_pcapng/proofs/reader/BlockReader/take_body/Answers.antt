@@ -1,13 +1,12 @@
-use Rattle.std.proofs.Common.{◌≡◌, ◌≢◌, ℕ, ◌+◌, ◌-◌, ◌≤◌, List, length, true, Ok, Err, IfOk, refl, sym, ap, subst, ◌∙◌, arith}
+use Rattle.std.proofs.Common.{◌≡◌, ◌+◌, ◌-◌, ◌≤◌, length, IfOk, refl, sym, ap, subst, ◌∙◌, arith}
 use Rattle.std.proofs.lemmas.Grind.{common_steps}
 use Rattle.std.proofs.lemmas.Result.{err_from_is_err_and}
 use Rattle.scr_pcapng.specs.Contents.{IsPlaced, captured_by}
 use Rattle.scr_pcapng.specs.Parts.{captured_of, options_size}
 use Rattle.scr_pcapng.specs.Blocks.{head_of}
-use Rattle.scr_pcapng.specs.declared.error.AnyError.TheVariants.{Ng}
 use Rattle.scr_pcapng.proofs.HeadsTaken.{IsFaultOf-from, head_of-most}
 use Rattle.scr_pcapng.proofs.Taken.{GivesFewer-then, TakesBytes-from, TakesBytes-then}
-use Rattle.scr_pcapng.proofs.BlockTaken.{HasGivenBlock, HasGivenBlock-from, block-few, block-taken, content-refused, length-told, options-within, parts-within, stop-few, stop-told}
+use Rattle.scr_pcapng.proofs.BlockTaken.{HasGivenBlock-from, block-few, block-taken, content-refused, length-told, options-within, parts-within, stop-few, stop-told}
 use Rattle.scr_pcapng.proofs.reader.BlockReader.take_body.Goals as goal
 
 pub returns-in_err-unit-clause-faulty : goal.returns-in_err-unit-clause-faulty

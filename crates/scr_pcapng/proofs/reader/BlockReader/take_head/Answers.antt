@@ -1,12 +1,10 @@
-use Rattle.std.proofs.Common.{◌≡◌, true, false, ℕ, ◌+◌, ◌≤◌, ◌<◌, List, length, take, Option, IfSome, refl, sym, ap, subst, ◌∙◌, arith}
+use Rattle.std.proofs.Common.{◌≡◌, true, ℕ, ◌≤◌, length, take, refl, sym, ap, subst, ◌∙◌, arith}
 use Rattle.std.proofs.lemmas.Grind.{common_steps}
 use Rattle.std.proofs.lemmas.List.{length-take-le}
 use Rattle.std.proofs.lemmas.Result.{err_from_is_err_and}
 use Rattle.std.specs.Io.KnownBytes.{Consumes}
 use Rattle.scr_pcapng.specs.declared.error.AnyError.TheVariants.{Ng}
-use Rattle.scr_pcapng.specs.declared.kind.Kind.{Kind}
 use Rattle.scr_pcapng.specs.Blocks.{front_of, head_of, is_total, kind_in, kind_of}
-use Rattle.scr_pcapng.specs.Parts.{IsHead}
 use Rattle.scr_pcapng.specs.State.{BlockReaderState, ahead}
 use Rattle.scr_pcapng.proofs.Heads.{is_total-least}
 use Rattle.scr_pcapng.proofs.HeadsTaken.{IsFaultOf-from, at_most, at_most-then, cut-before_kind, cut-behind_head, cut-behind_kind, cut-in_front, front_of-most, head_of-most, head_of-within, head-told, kind-told, odd, unmarked}
