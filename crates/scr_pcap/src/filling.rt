@@ -1,5 +1,5 @@
 ghost use Rattle.std.specs.Prelude.{◌≡◌, ◌≤◌, ◌<◌, ℕ, length, take, IfOk, OnErr};
-ghost use Rattle.std.specs.Io.KnownBytes.{Consumes, IsAtEnd};
+ghost use Rattle.std.specs.Io.KnownBytes.{Consumes, IsAtEnd, prepend_known};
 ghost use Rattle.scr_base.specs.Causes.{CountsFault};
 ghost use Rattle.scr_pcap.specs.Taken.{GivesFewer};
 
@@ -23,4 +23,22 @@ pub fn fill<S: Source>(source: &mut S, buf: &mut [u8]) -> Result<usize, Failed>
         count += more;
     }
     Ok(count)
+}
+
+// Fills a buffer behind its first bytes, which were taken ahead, and answers how many bytes are there.
+pub(crate) fn fill_behind<S: Source>(
+    first: &[u8],
+    source: &mut S,
+    buf: &mut [u8],
+) -> Result<usize, Failed>
+    requires { length first.now ≤ length buf.old }
+    ensures within { IfOk result (λ count. count ≤ length buf.old) }
+    ensures taken { IfOk result (λ count. Consumes (prepend_known first.now (S.left source.old)) (S.left source.new) (take count buf.new)) }
+    ensures end { IfOk result (λ count. count < length buf.old → IsAtEnd (S.left source.new)) }
+    ensures fewer { OnErr result (GivesFewer (length buf.old) (prepend_known first.now (S.left source.old)) (S.left source.new)) }
+    ensures cause { CountsFault S.faults source.old source.new result }
+{
+    buf[..first.len()].copy_from_slice(first);
+    let count = fill(source, &mut buf[first.len()..])?;
+    Ok(first.len() + count)
 }

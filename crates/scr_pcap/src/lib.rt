@@ -1,7 +1,8 @@
 //! Captures in the libpcap file format, version 2.4, read one record at a time, or made up.
 //!
 //! **What it does.** [`Reader::begin`] takes the header of a capture from any source, in either order of bytes and with
-//! fractions in microseconds or nanoseconds. [`Reader::next`] then takes a record: its time, and its bytes into a
+//! fractions in microseconds or nanoseconds; [`Reader::begin_after`] does so where the first four bytes were taken ahead.
+//! [`Reader::next`] then takes a record: its time, and its bytes into a
 //! [`FrameBuf`], which is used again for the next. Frames are Ethernet frames of at most 262,144 bytes, and a capture has
 //! at most 1,000,000 of them. [`generate`] makes a capture of some hosts that talk to one server.
 //!

@@ -1,12 +1,12 @@
 ghost use Rattle.std.specs.Prelude.{◌≡◌, ◌≢◌, ◌⊎◌, ◌≤◌, ◌<◌, ◌+◌, ℕ, List, Bool, true, length, drop, Option, Some, None, Ok, Err, IfOk, IfErr, IfSome, OnErr};
-ghost use Rattle.std.specs.Io.KnownBytes.{IsAtEnd};
+ghost use Rattle.std.specs.Io.KnownBytes.{IsAtEnd, prepend_known};
 ghost use Rattle.scr_pcap.specs.Header.{HEADER_SIZE, header_of, IsHeaderFault};
 ghost use Rattle.scr_pcap.specs.Records.{Record, RECORDS, CAPTURED, RECORD_HEADER_SIZE, TakesRecord, IsFaultyRest, IsRecordFault, rest_fault, captured_in};
 ghost use Rattle.scr_pcap.specs.State.{ReaderState, IsFresh, answer_of, reach};
 ghost use Rattle.scr_pcap.specs.Taken.{GivesAtMost, Takes, next_size, CountsReadFault};
 
 use crate::error::CaptureError;
-use crate::filling::fill;
+use crate::filling::{fill, fill_behind};
 use crate::format::Format;
 use crate::frame::{FrameBuf, LONGEST};
 use crate::header::{HEADER, header_of};
@@ -79,6 +79,27 @@ impl Reader {
         let format = header_of(&header[..count])?;
         Ok(Reader {
             format,
+            taken: 0,
+            progress: Progress::Reading,
+        })
+    }
+
+    /// As `begin`, where `first` are the first four bytes of the capture, which were taken ahead.
+    pub fn begin_after<S: Source>(first: [u8; 4], source: &mut S) -> Result<Self, CaptureError>
+        ensures fresh { IfOk result IsFresh }
+        ensures header { IfSome (prepend_known first (S.left source.old)) (λ bytes. IfOk result (λ reader.
+            (header_of bytes ≡ Ok reader.format) × (S.left source.new ≡ Some (drop HEADER_SIZE bytes)))) }
+        ensures refused { IfSome (prepend_known first (S.left source.old)) (λ bytes. IfErr result (λ error.
+            error ≢ CaptureError.ReadFault → header_of bytes ≡ Err error)) }
+        ensures named { IfErr result IsHeaderFault }
+        ensures takes { Takes HEADER_SIZE (prepend_known first (S.left source.old)) (S.left source.new) result }
+        ensures reach { IfOk result (λ reader. GivesAtMost (reach reader) (prepend_known first (S.left source.old)) (S.left source.new)) }
+        ensures counts { CountsReadFault S.faults source.old source.new result }
+    {
+        let mut header = [0; HEADER];
+        let count = fill_behind(&first, source, &mut header)?;
+        Ok(Reader {
+            format: header_of(&header[..count])?,
             taken: 0,
             progress: Progress::Reading,
         })

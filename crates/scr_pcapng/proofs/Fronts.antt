@@ -31,7 +31,7 @@ pub record IsWhole (position : Position) (bytes : List ℕ) (b : Block) : Type 0
   pub total : is_total kind (length bytes) ≡ true
   pub told : closed position kind order bytes ≡ Ok b
 
-sized-whole : (position : Position) (kind : Kind) (order : Order) (block behind : List ℕ) → is_total kind (length block) ≡ true
+pub sized-whole : (position : Position) (kind : Kind) (order : Order) (block behind : List ℕ) → is_total kind (length block) ≡ true
     → sized position kind order (length block) (block ++ behind) ≡ closed position kind order block
 unfolding sized framed
 sized-whole position kind order block behind total =

@@ -1,5 +1,10 @@
 pub mod Taken
 pub mod Heads
 pub mod Fronts
+pub mod HeadsTaken
+pub mod BlockTaken
+pub mod Stepping
+pub mod EitherReading
 pub mod OneReading
 pub mod SomeReading
+pub mod UnitOptions

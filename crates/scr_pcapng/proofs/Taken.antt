@@ -2,10 +2,10 @@
 use Rattle.std.proofs.Common.{◌≡◌, ℕ, ◌+◌, ◌-◌, ◌≤◌, List, [], ◌++◌, length, Option, Result, Ok, Err, OnErr, sym, ap, ◌∙◌, arith}
 use Rattle.std.proofs.Math.Seq.{drop-append-add}
 use Rattle.std.proofs.lemmas.List.{length-append}
-use Rattle.std.specs.Io.KnownBytes.{Consumes}
+use Rattle.std.specs.Io.KnownBytes.{Consumes, prepend_known}
 use Rattle.scr_pcap.specs.declared.format.Order.{Order}
 use Rattle.scr_pcap.specs.Header.{number, number_at}
-use Rattle.scr_pcap.proofs.Taking.{Consumes-none, Consumes-then}
+use Rattle.scr_pcap.proofs.Taking.{Consumes-none, Consumes-then, GivesFewer-ahead}
 use Rattle.scr_pcap.specs.Taken.{GivesFewer}
 use Rattle.scr_pcapng.specs.Parts.{TakesBytes, TakesTail}
 
@@ -61,3 +61,9 @@ TakesTail-from old mid new order surplus short size told piece passed taken all 
       all = omega arith;
       number = is ∙ sym (number_at-behind order 4 (short - 4) passed.bytes piece) ∙ ap (λ (n : ℕ). number_at order n 4 (passed.bytes ++ piece)) (sym place);
     }
+
+-- bytes that were taken ahead, and fewer behind them
+pub fewer-ahead : {T E : Type 0} (result : Result T E) (first : List ℕ) (size more : ℕ) (old new : Option (List ℕ)) → OnErr result (GivesFewer size old new)
+    → length first + size ≤ more → OnErr result (GivesFewer more (prepend_known first old) new)
+fewer-ahead (Ok value) first size more old new fewer within = tt
+fewer-ahead (Err fault) first size more old new fewer within = GivesFewer-ahead first size more old new fewer within

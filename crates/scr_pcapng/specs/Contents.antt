@@ -2,7 +2,7 @@
 -- length at 12 and options from 16 on; a simple packet its original length at 8 and its bytes from 12 on; an enhanced
 -- packet its interface at 8, its time at 12, high half first, its captured length at 20, and its bytes from 28 on.
 -- Other blocks are passed over.
-use Rattle.std.specs.Prelude.{ℕ, ◌≡◌, ◌≤◌, ◌+◌, ◌-◌, ◌*◌, ◌^◌, min, ◌||◌, not, List, [], ◌∷◌, ◌++◌, length, take, drop, Option, Some, None, Result, Ok, Err, ◌==◌, nat_lt, slice_get, if◌then◌else◌}
+use Rattle.std.specs.Prelude.{ℕ, ◌≡◌, ◌≤◌, ◌<◌, ◌+◌, ◌-◌, ◌*◌, ◌^◌, min, ◌||◌, not, List, [], ◌∷◌, ◌++◌, length, take, drop, Option, Some, None, Result, Ok, Err, ◌==◌, nat_lt, slice_get, if◌then◌else◌}
 use Rattle.scr_pcap.specs.declared.format.Order.{Order}
 use Rattle.scr_pcap.specs.Header.{number_at}
 use Rattle.scr_pcap.specs.Records.{Record, RECORDS, CAPTURED}
@@ -121,3 +121,10 @@ IsPlaced head size (NewSection order) = Unit {0}
 IsPlaced head size (NewInterface interface) = Unit {0}
 IsPlaced head size (Packet time place captured) = (place ≡ head) × (captured ≤ CAPTURED) × (head + captured + 4 ≤ size)
 IsPlaced head size Passed = Unit {0}
+
+-- a reader can go behind a block that tells this: an interface has a unit, and a packet isn't one too many
+abbrev pub IsAccepted : Position → Content → Type 0
+IsAccepted position (NewSection order) = Unit {0}
+IsAccepted position (NewInterface interface) = 0 < interface.units
+IsAccepted position (Packet time place captured) = position.packets < RECORDS
+IsAccepted position Passed = Unit {0}

@@ -5,3 +5,5 @@ pub mod Contents
 pub mod Reading
 pub mod Parts
 pub mod State
+pub mod Steps
+pub mod Either

@@ -1,6 +1,6 @@
 -- A block that is taken in parts from a source.
-use Rattle.std.specs.Prelude.{◌≡◌, ◌≢◌, ℕ, ◌-◌, ◌≤◌, List, length, take, Option, Some, Result, Ok, Err, IfSome, IfErr, ⊤, ◌==◌, if◌then◌else◌}
-use Rattle.std.specs.Io.KnownBytes.{Consumes, IsAtEnd, prepend_known}
+use Rattle.std.specs.Prelude.{◌≡◌, ◌≢◌, ℕ, ◌+◌, ◌-◌, ◌++◌, None, ◌≤◌, List, length, take, Option, Some, Result, Ok, Err, IfSome, IfErr, ⊤}
+use Rattle.std.specs.Io.KnownBytes.{Consumes, IsAtEnd}
 use Rattle.scr_pcap.specs.declared.format.Order.{Order}
 use Rattle.scr_pcap.specs.Header.{number_at}
 use Rattle.scr_pcapng.specs.declared.kind.Kind.{Kind}
@@ -8,13 +8,14 @@ use Rattle.scr_pcapng.specs.declared.content.Content.{Content}
 use Rattle.scr_pcapng.specs.declared.error.AnyError.{AnyError}
 use Rattle.scr_pcapng.specs.declared.error.AnyError.TheVariants.{Classic, Ng, ReadFault, OutOfMemory}
 use Rattle.scr_pcapng.specs.declared.kind.Kind.TheVariants.{SectionHeader, InterfaceDescription, SimplePacket, EnhancedPacket, Other}
-use Rattle.scr_base.specs.Causes.{counted}
 use Rattle.scr_pcapng.specs.declared.error.NgError.{NgError}
 use Rattle.scr_pcapng.specs.declared.error.NgError.TheVariants.{Cut}
+use Rattle.scr_pcapng.specs.declared.options.Found.{Found}
+use Rattle.scr_pcapng.specs.declared.options.Found.TheVariants as found
 use Rattle.scr_pcapng.specs.Options.{unit_in}
 use Rattle.scr_pcapng.specs.Contents.{Position, captured_by, records_in, records_with}
 use Rattle.scr_pcapng.specs.Blocks.{BLOCKS, IsBlock, front_of, head_of, kind_in, order_in, total_in}
-use Rattle.scr_pcapng.specs.Reading.{IsFaultyRest, SECTION}
+use Rattle.scr_pcapng.specs.Reading.{IsFaultyRest}
 
 -- a source gave so many bytes
 pub record TakesBytes (old new : Option (List ℕ)) (size : ℕ) : Type 0 where
@@ -35,10 +36,6 @@ pub record TakesUnit (old new : Option (List ℕ)) (order : Order) (size : ℕ) 
   pub taken : Consumes old new bytes
   pub all : length bytes ≡ size
   pub told : unit ≡ unit_in order bytes
-
--- the bytes from a block on, by what a source has left: the first four of a capture were taken ahead
-abbrev pub ahead : Position → Option (List ℕ) → Option (List ℕ)
-ahead position left = if position.blocks == 0 then prepend_known SECTION left else left
 
 -- the block in front has this kind, order and total length
 pub record IsHead (position : Position) (bytes : List ℕ) (kind : Kind) (order : Order) (total : ℕ) : Type 0 where
@@ -73,13 +70,6 @@ pub record TakesOptions (old new : Option (List ℕ)) (kind : Kind) (order : Ord
   pub all : length bytes ≡ options_size kind total
   pub told : kind ≡ InterfaceDescription → unit ≡ unit_in order bytes
 
--- a source gave the bytes of a packet, or nothing
-pub record TakesFrame (old new : Option (List ℕ)) (content : Content) (frame : List ℕ) : Type 0 where
-  pub bytes : List ℕ
-  pub taken : Consumes old new bytes
-  pub all : length bytes ≡ captured_by content
-  pub told : records_with content bytes ≡ records_with content frame
-
 -- a source gave the block that stands there, with this content and, of a packet, these bytes
 pub record TakesBlock (position : Position) (old new : Option (List ℕ)) (content : Content) (frame : List ℕ) : Type 0 where
   pub bytes : List ℕ
@@ -92,14 +82,6 @@ pub record HasGivenHead (position : Position) (old new : Option (List ℕ)) (kin
   pub is : IfSome old (λ bytes. IsHead position bytes kind order total)
   pub taken : Consumes old new (take (head_of kind) head)
 
--- how often a source has failed behind an answer: once more where the answer says so
-abbrev pub faults_counted : {T : Type 0} → Result T AnyError → ℕ → ℕ
-faults_counted (Ok value) faults = faults
-faults_counted (Err (Classic fault)) faults = faults
-faults_counted (Err (Ng fault)) faults = faults
-faults_counted (Err ReadFault) faults = counted faults
-faults_counted (Err (OutOfMemory want)) faults = faults
-
 -- why bytes of the block with this number weren't taken: the end, or a failure of the source
 abbrev pub IsStop : (block : ℕ) → Option (List ℕ) → AnyError → Type 0
 IsStop block new (Classic fault) = ⊥
@@ -111,3 +93,22 @@ IsStop block new (OutOfMemory want) = ⊥
 abbrev pub captured_of : Result Content NgError → ℕ
 captured_of (Ok content) = captured_by content
 captured_of (Err fault) = 0
+
+-- how many bytes of options were taken
+abbrev pub taken_by : Found → ℕ
+taken_by (found.Unit value) = 8
+taken_by found.Last = 4
+taken_by (found.Another taken) = taken
+
+-- what options tell of the unit, by what was found in front of others
+abbrev pub unit_by : Found → (others : Option ℕ) → Option ℕ
+unit_by (found.Unit value) others = Some value
+unit_by found.Last others = None
+unit_by (found.Another taken) others = others
+
+-- of so many bytes of options a source gave some, in which this was found; so many are left
+pub record TakesOption (old new : Option (List ℕ)) (order : Order) (size left : ℕ) (what : Found) : Type 0 where
+  pub bytes : List ℕ
+  pub taken : Consumes old new bytes
+  pub all : length bytes + left ≡ size
+  pub told : (behind : List ℕ) → length behind ≡ left → unit_in order (bytes ++ behind) ≡ unit_by what (unit_in order behind)

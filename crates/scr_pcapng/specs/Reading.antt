@@ -73,12 +73,16 @@ IsClassicReading bytes (Err (Ng fault)) = ⊥
 IsClassicReading bytes (Err ReadFault) = ⊥
 IsClassicReading bytes (Err (OutOfMemory want)) = ⊥
 
+-- the reading in blocks from a position on
+abbrev pub IsRestInBlocks : Position → List ℕ → Result (List Record) AnyError → Type 0
+IsRestInBlocks position bytes (Ok records) = IsReadingFrom position bytes (Ok records)
+IsRestInBlocks position bytes (Err (Classic fault)) = ⊥
+IsRestInBlocks position bytes (Err (Ng fault)) = IsReadingFrom position bytes (Err fault)
+IsRestInBlocks position bytes (Err ReadFault) = ⊥
+IsRestInBlocks position bytes (Err (OutOfMemory want)) = ⊥
+
 abbrev pub IsBlockReading : List ℕ → Result (List Record) AnyError → Type 0
-IsBlockReading bytes (Ok records) = IsReadingFrom START bytes (Ok records)
-IsBlockReading bytes (Err (Classic fault)) = ⊥
-IsBlockReading bytes (Err (Ng fault)) = IsReadingFrom START bytes (Err fault)
-IsBlockReading bytes (Err ReadFault) = ⊥
-IsBlockReading bytes (Err (OutOfMemory want)) = ⊥
+IsBlockReading bytes reading = IsRestInBlocks START bytes reading
 
 -- the reading of these bytes
 abbrev pub IsReading : List ℕ → Result (List Record) AnyError → Type 0

@@ -1,7 +1,7 @@
 ghost use Rattle.std.specs.Prelude.{◌≡◌, ◌≤◌, ◌<◌, ◌+◌, ℕ, length, true, IfOk, slice_get};
 ghost use Rattle.scr_pcap.specs.Header.{number_at};
 ghost use Rattle.scr_pcapng.specs.Blocks.{head_of, is_total};
-ghost use Rattle.scr_pcapng.specs.Contents.{IsPlaced, content_by, cut_to, enhanced_on, interface_with, number_of, packet_on, section_in, simple_on};
+ghost use Rattle.scr_pcapng.specs.Contents.{IsAccepted, IsPlaced, content_by, cut_to, enhanced_on, interface_with, number_of, packet_on, section_in, simple_on};
 
 use crate::content::{Content, InterfaceInfo};
 use crate::error::NgError;
@@ -34,6 +34,7 @@ impl BlockReader {
         requires { is_total head.now.kind head.now.total ≡ true }
         ensures told { result ≡ content_by self.now.position head.now.kind head.now.order head.now.total head.now.bytes unit }
         ensures placed { IfOk result (IsPlaced (head_of head.now.kind) head.now.total) }
+        ensures accepted { IfOk result (IsAccepted self.now.position) }
     {
         match head.kind {
             Kind::SectionHeader => self.section(head),
@@ -47,6 +48,7 @@ impl BlockReader {
     fn section(&self, head: &Head) -> Result<Content, NgError>
         ensures told { result ≡ section_in self.now.position head.now.order head.now.bytes }
         ensures placed { IfOk result (IsPlaced (head_of head.now.kind) head.now.total) }
+        ensures accepted { IfOk result (IsAccepted self.now.position) }
     {
         if head.order.u16_at(&head.bytes, 12) != 1 {
             return Err(NgError::Version {
@@ -59,6 +61,7 @@ impl BlockReader {
     fn interface(&self, head: &Head, unit: Option<u8>) -> Result<Content, NgError>
         ensures told { result ≡ interface_with self.now.position head.now.order head.now.bytes unit }
         ensures placed { IfOk result (IsPlaced (head_of head.now.kind) head.now.total) }
+        ensures accepted { IfOk result (IsAccepted self.now.position) }
     {
         let units = match unit {
             None => MICROSECONDS,
@@ -81,6 +84,7 @@ impl BlockReader {
         requires size { 16 ≤ head.now.total }
         ensures told { result ≡ simple_on self.now.position head.now.order head.now.total head.now.bytes (slice_get self.now.position.interfaces 0) }
         ensures placed { IfOk result (IsPlaced 12 head.now.total) }
+        ensures accepted { IfOk result (IsAccepted self.now.position) }
     {
         let interface = self.interface_at(0)?;
         let original = head.order.u32_at(&head.bytes, 8);
@@ -93,6 +97,7 @@ impl BlockReader {
         ensures told { result ≡ enhanced_on self.now.position head.now.order head.now.total head.now.bytes
             (slice_get self.now.position.interfaces (number_at head.now.order 8 4 head.now.bytes)) }
         ensures placed { IfOk result (IsPlaced 28 head.now.total) }
+        ensures accepted { IfOk result (IsAccepted self.now.position) }
     {
         let interface = self.interface_at(head.order.u32_at(&head.bytes, 8))?;
         let high = head.order.u32_at(&head.bytes, 12);
@@ -120,6 +125,7 @@ impl BlockReader {
     ) -> Result<Content, NgError>
         ensures told { result ≡ packet_on self.now.position interface time captured place room }
         ensures placed { IfOk result (IsPlaced place (place + room + 4)) }
+        ensures accepted { IfOk result (IsAccepted self.now.position) }
     {
         if captured as usize > LONGEST || padded(captured) > room {
             return Err(NgError::Captured {

@@ -3,7 +3,8 @@ ghost use Rattle.scr_pcap.specs.Records.{CAPTURED};
 ghost use Rattle.std.specs.Io.KnownBytes.{Consumes, IsAtEnd};
 ghost use Rattle.scr_base.specs.Causes.{CountsFault};
 ghost use Rattle.scr_pcap.specs.Taken.{GivesFewer};
-ghost use Rattle.scr_pcapng.specs.Parts.{IsStop, TakesBytes, TakesTail, faults_counted};
+ghost use Rattle.scr_pcapng.specs.Parts.{IsStop, TakesBytes, TakesTail};
+ghost use Rattle.scr_pcapng.specs.State.{faults_counted};
 
 use crate::error::{AnyError, NgError};
 use scr_base::{Failed, Source};

@@ -14,7 +14,8 @@ pub(crate) fn is_beyond(value: u8) -> bool
 // How many units a second has by this value.
 pub(crate) fn units_of(value: u8) -> u64
     requires { is_beyond value ≡ false }
-    ensures { result ≡ units_of value }
+    ensures value { result ≡ units_of value }
+    ensures some { 0 < result }
 {
     if value < 128 {
         10u64.pow(u32::from(value))
