@@ -2,7 +2,6 @@ pub mod Lost
 pub mod Knowing
 pub mod Frames
 pub mod Awaiting
-pub mod Begun
 pub mod Packets
 pub mod Found
 pub mod Taking

@@ -23,9 +23,9 @@
 //! were worked out by hand.
 //!
 //! **Limits.** Those of a plan: at most 1,000,000 packets, 16 cores and a history of 64. Each core holds 64 bytes for each
-//! packet. A run's time grows with frames times cores, and the link is asked once a frame. Where no frame
-//! that carries a packet was delivered, or few were, a core asks its peers one by one, at most one look for each. Nothing
-//! here starts a thread.
+//! packet. A run's time grows with frames times cores; the fates of all frames are told once, before the first. Where no
+//! frame that carries a packet was delivered, or few were, a core asks its peers one by one, at most one look for each.
+//! Nothing here starts a thread.
 #![tactic(auto)]
 
 mod entry;

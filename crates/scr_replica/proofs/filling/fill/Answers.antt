@@ -6,7 +6,7 @@ use Rattle.scr_plan.specs.Link.{fate_of}
 use Rattle.scr_plan.specs.Plan.{frame_count}
 use Rattle.scr_sequencer.specs.Sequence.{Sequence, begun}
 use Rattle.scr_sequencer.specs.Answers.{Adds, Follows}
-use Rattle.scr_replica.proofs.Begun.{follows-begun}
+use Rattle.scr_sequencer.proofs.Following.{follows_none}
 use Rattle.scr_replica.proofs.filling.fill.Goals as goal
 use Rattle.scr_replica.proofs.filling.fill.Goals.{After-outgoing-in-loop-i-1}
 
@@ -14,7 +14,7 @@ pub loop-i-init : goal.loop-i-init
 loop-i-init c =
     let begins = c.in_ok-sequencer.ensures ∙ (λ i. begun (c.cores.ensures.cores i) (c.history.ensures.history i)) in
     record {
-      follows = follows-begun c.args.plan.now c.in_ok-sequencer.sequencer c.requires.is_plan begins;
+      follows = subst (Follows c.args.plan.now) (sym begins) (follows_none c.args.plan.now c.requires.is_plan);
       taken = ap (λ (s : Sequence). s.taken) begins;
       took = c.requires;
     }
