@@ -15,7 +15,8 @@ pub fn bytes_sequenced(alloc: Global, length: Length) -> Result<u64, OutOfMemory
     let mut sequencer = Sequencer::make(alloc, CORES, length.history)?;
     let mut bytes = 0u64;
     for n in 0..length.frames {
-        if let Some(frame) = sequencer.next(made_up(n), ONCE)?.own {
+        let outgoing = sequencer.next(made_up(n), ONCE)?;
+        if let Some(frame) = &outgoing.own {
             bytes = bytes.wrapping_add(frame.packet.bytes().len() as u64);
         }
     }
