@@ -27,6 +27,7 @@ mod reading;
 mod settings;
 #[cfg(test)]
 mod tests;
+mod texts;
 mod word_fault;
 mod word_line;
 
