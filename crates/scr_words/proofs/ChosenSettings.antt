@@ -262,13 +262,13 @@ module _ (operands : List (List ℕ)) (values : HaveFaultlessValues operands) wh
   program-same (Table a) (One b) has_a has_b = absurd (cc (has_a.0, has_b.0))
   program-same (Table a) (Chain b d) has_a has_b = absurd (cc (has_a.0, has_b.0))
 
-  drops_some : (ranges : List DropRange) × Spells (value_for operand.Drop operands) ranges
+  pub drops_some : (ranges : List DropRange) × Spells (value_for operand.Drop operands) ranges
   drops_some = ranges-some Drop (value_for operand.Drop operands) (value_for-passes operand.Drop operands values (list_fault-empty read_at Drop))
 
-  repeats_some : (ranges : List DropRange) × Spells (value_for operand.Repeat operands) ranges
+  pub repeats_some : (ranges : List DropRange) × Spells (value_for operand.Repeat operands) ranges
   repeats_some = ranges-some Repeat (value_for operand.Repeat operands) (value_for-passes operand.Repeat operands values (list_fault-empty read_at Repeat))
 
-  delays_some : (delays : List FrameDelay) × SpellsDelays (value_for operand.Delay operands) delays
+  pub delays_some : (delays : List FrameDelay) × SpellsDelays (value_for operand.Delay operands) delays
   delays_some = delays-some Delay (value_for operand.Delay operands) (value_for-passes operand.Delay operands values (list_fault-empty delay_read_at Delay))
 
   link_some : (link : Link) × HasLink operands link

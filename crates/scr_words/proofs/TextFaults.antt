@@ -20,7 +20,7 @@ use Rattle.scr_tables.proofs.Spelled.{some_rule, lacks-beyond, each-from_reads}
 use Rattle.scr_tables.proofs.SomeReading.{some_reading}
 use Rattle.scr_words.specs.declared.word_fault.WordCause.{WordCause}
 use Rattle.scr_words.specs.declared.word_fault.WordCause.TheVariants.{Table}
-use Rattle.scr_words.specs.TextFaults.{refused_with, pieces_fault, list_fault, rules_in, table_fault}
+use Rattle.scr_words.specs.TextFaults.{pieces_fault, list_fault, rules_in, table_fault}
 
 none-some : (a : WordCause) (x : Option WordCause) → x ≡ None → x ≡ Some a → ⊥
 none-some a x none some = cc

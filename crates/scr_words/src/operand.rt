@@ -142,9 +142,19 @@ impl Operand {
         let table = Taker::Program(ProgramName::Table);
         match self {
             Operand::Program => line(b"program", Taker::Every, Form::OneProgram, b""),
-            Operand::Flows => line(b"flows", Taker::Every, number(1, u64::from(MOST_FLOWS)), b"4096"),
+            Operand::Flows => line(
+                b"flows",
+                Taker::Every,
+                number(1, u64::from(MOST_FLOWS)),
+                b"4096",
+            ),
             Operand::Cores => line(b"cores", Taker::WithCores, number(1, MOST_CORES), b"1"),
-            Operand::History => line(b"history", Taker::WithCores, number(0, LONGEST_HISTORY), b""),
+            Operand::History => line(
+                b"history",
+                Taker::WithCores,
+                number(0, LONGEST_HISTORY),
+                b"",
+            ),
             Operand::Drop => line(b"drop", Taker::WithCores, Form::DropList, b""),
             Operand::Repeat => line(b"repeat", Taker::WithCores, Form::RepeatList, b""),
             Operand::Delay => line(b"delay", Taker::WithCores, Form::DelayList, b""),
