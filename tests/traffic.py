@@ -183,3 +183,20 @@ def drop_list(seed, frames):
         last = first + dice.choice([0, 1, 5, 40, frames])
         pieces.append(dice.choice([f"{first}", f"{first}-{last}", f"{first}-{last}/{dice.choice([1, 2, 3, 7, 64, 10**9])}"]))
     return ",".join(pieces)
+
+
+def delay_list(seed, frames):
+    """Delays of some frames, in any order: of a few steps or many, about the beacons, at the end, and behind it."""
+    dice = random.Random(seed)
+    about = [256, 257, 512, frames, frames + 3]
+    some = [dice.choice(about) - dice.randrange(20) if dice.random() < 0.4 else dice.randrange(1, frames + 5)
+            for _ in range(dice.choice([1, 4, 15, 60]))]
+    chosen = list(dict.fromkeys(frame for frame in some if frame > 0))
+    return ",".join(f"{frame}:{dice.choice([1, 1, 1, 2, 3, 5, 9, 16, 17, 40, 256, 1_000])}" for frame in chosen)
+
+
+def link(seed, frames):
+    """Operands of a link that loses, repeats and delays, sometimes without one of these."""
+    dice = random.Random(seed)
+    lists = {"drop": drop_list(seed, frames), "repeat": drop_list(seed + 1, frames), "delay": delay_list(seed, frames)}
+    return [f"{name}={text}" for name, text in lists.items() if dice.random() < 0.85]

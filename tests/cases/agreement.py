@@ -3,11 +3,10 @@
 The model makes captures here, and says which frames carry which packets; it isn't asked for a verdict.
 """
 from captures import header, record
-from model import generator, plan
+from model import generator, lists, plan
 from model.reading import NANOSECONDS, header as header_of, records
-from model.words import drop_list as drops_of
 from running import difference, outcome, same, shown
-from traffic import PROGRAMS, RUN, capture, drop_list, settings
+from traffic import PROGRAMS, RUN, capture, delay_list, drop_list, link, settings
 
 
 def without_cores(found):
@@ -29,26 +28,27 @@ def whatever_the_schedule(program):
     """Rings and threads change nothing; nor does a history where nothing is dropped, but in the core lines."""
     for seed, chosen in enumerate(PROGRAMS + RUN, 200):
         data, call = capture(seed, 700), f"run program={chosen} {settings(seed, chosen)} cores={2 + seed % 15}"
-        for drop in ("", " drop=" + drop_list(seed, 700), f" history={seed % 3} drop=2-700/3"):
-            calls = [f"{call}{drop}{more}" for more in ("", " threads=no", " threads=yes", " ring=1", " ring=1 threads=no",
+        for over in ("", " drop=" + drop_list(seed, 700), f" history={seed % 3} drop=2-700/3", " " + " ".join(link(seed, 700))):
+            calls = [f"{call}{over}{more}" for more in ("", " threads=no", " threads=yes", " ring=1", " ring=1 threads=no",
                                                         " ring=3", " ring=1024", " ring=4096")]
-            yield f"seed {seed},{drop}", same(program, calls, data)
+            yield f"seed {seed},{over}", same(program, calls, data)
 
 
 def plain_over_the_kept(program):
-    """With drops, the verdicts are those of `plain` over a capture of just the packets that some delivered frame carries."""
+    """Over a link, the verdicts are those of `plain` over a capture of just the packets that some delivered frame carries."""
     for seed, chosen in enumerate(RUN * 2, 300):
         frames, cores, history = 250, 1 + seed % 16, (0, 1, 3)[seed % 3]
-        drop, own = drop_list(seed, frames), settings(seed, chosen)
+        drop, late, own = drop_list(seed, frames), delay_list(seed, frames) if seed % 2 else "", settings(seed, chosen)
         data = capture(seed, frames)
-        planned = plan.Plan(frames, cores, history, drops_of(drop.encode())[0])
+        through = plan.Link(lists.ranges("Drop", drop.encode())[0], [], lists.delays(late.encode())[0])
+        planned = plan.Plan(frames, cores, history, through)
         kept = sorted(planned.kept)
         order, unit = header_of(data)
         fewer = header(unit, order="<" if order == "little" else ">")
         fewer += b"".join(again(found, order, unit) for number, found in enumerate(records(data), 1) if number in planned.kept)
         plainly = outcome(program, f"plain program={chosen} {own}".split(), fewer).out.decode().splitlines()
         verdicts = {kept[int(line.split()[0]) - 1]: line.split()[1] for line in plainly if line[0].isdigit()}
-        words = f"run program={chosen} {own} cores={cores} history={history} drop={drop}".split()
+        words = f"run program={chosen} {own} cores={cores} history={history} drop={drop} delay={late}".split()
         lines = outcome(program, words, data).out.decode().splitlines()
         found = [line for line in lines if line[0].isdigit()]
         wanted = [f"{number} {verdicts.get(number)}" for number in planned.delivered]
@@ -69,7 +69,7 @@ def load_as_run(program):
     for seed, chosen in enumerate(RUN * 2, 400):
         start, frames, hosts = seed * 7_919, 900 + seed, 1 + seed % 40
         more = f"program={chosen} {settings(seed, chosen)} cores={1 + seed % 16} history={seed % 9}"
-        more += f" drop={drop_list(seed, frames)}"
+        more += " " + " ".join(link(seed, frames))
         words = f"load {more} start={start} frames={frames} hosts={hosts}".split()
         ran = outcome(program, f"run {more}".split(), generator.capture(start, frames, hosts))
         wanted = ran._replace(out=b"".join(line for line in ran.out.splitlines(True) if not line[:1].isdigit()))

@@ -11,9 +11,10 @@ from .known import FOUR, FOUR_REPORT, SOURCE
 
 COMMANDS = ("run", "plain", "load")
 OWN = {"ddos": ["threshold"], "heavy": ["bytes"], "bucket": ["rate", "burst"], "knock": ["ports"], "conn": ["idle"]}
-OF_CORES, OF_LOAD = ["cores", "history", "drop", "ring", "threads"], ["start", "frames", "hosts"]
-SAMPLE = {"flows": "7", "cores": "2", "history": "1", "drop": "3", "ring": "9", "threads": "no", "start": "1", "frames": "3",
-          "hosts": "2", "threshold": "1", "bytes": "1", "rate": "1", "burst": "1", "ports": "1,2,3", "idle": "1",
+OF_CORES = ["cores", "history", "drop", "repeat", "delay", "ring", "threads"]
+OF_LOAD = ["start", "frames", "hosts"]
+SAMPLE = {"flows": "7", "cores": "2", "history": "1", "drop": "3", "repeat": "2", "delay": "1:1", "ring": "9", "threads": "no",
+          "start": "1", "frames": "3", "hosts": "2", "threshold": "1", "bytes": "1", "rate": "1", "burst": "1", "ports": "1,2,3", "idle": "1",
           "first": "ddos", "second": "heavy", "table": "0:*>0/P"}
 NINES = "9" * 40
 
@@ -275,7 +276,8 @@ FAULTS = [("-v", "NoEquals"), ("", "NoEquals"), ("color=red", "UnknownName"), ("
           ("program=ddos", "Twice"), ("program=dns", "Twice"), ("threshold=", "Value"),
           ("flows=x", "Value"), ("threads=maybe", "Value"), ("cores=17", "Range"), ("ring=0", "Range"), ("history=65", "Range"),
           ("drop=1,,2", "Drop Empty at 2"), ("drop=2x", "Drop Digit at 0"), ("drop=1,0", "Drop Zero at 2"),
-          ("drop=1000000001", "Drop TooLarge at 0"), ("drop=7-3", "Drop Range at 0")]
+          ("drop=1000000001", "Drop TooLarge at 0"), ("drop=7-3", "Drop Range at 0"), ("repeat=1,2-1", "Repeat Range at 2"),
+          ("delay=1:1001", "Delay TooLarge at 0"), ("delay=3:1,3:1", "Delay Twice at 4")]
 
 
 def several_faults(program):
@@ -285,15 +287,15 @@ def several_faults(program):
     for one, other in pairs:
         words = [*base, one[0], other[0]]
         assert answer(words) == fault(1, f"word 3: {one[1]}"), words
-    for one, other in pairs[::5]:
+    for one, other in pairs[::6]:
         yield f"{one[0]} and {other[0]}", compare(program, [*base, one[0], other[0]], FOUR, fault(1, f"word 3: {one[1]}"))
     good = ["flows=9", "threshold=3", "cores=2", "threads=no"]
-    for at, (one, other) in enumerate(pairs[2::11]):
+    for at, (one, other) in enumerate(pairs[2::14]):
         between = [word for word in good if word.split("=")[0] not in {text.split("=")[0] for text, _ in (one, other)}][at % 3:]
         words = [*base, *between, one[0], "ring=7", other[0]]
         if not {"ring=0"} & {one[0], other[0]}:
             yield f"{words[2:]}", compare(program, words, FOUR, fault(1, f"word {3 + len(between)}: {one[1]}"))
-    for three in list(itertools.permutations(FAULTS, 3))[7::131]:
+    for three in list(itertools.permutations(FAULTS, 3))[7::195]:
         words = [*base, *(text for text, _ in three)]
         yield f"{words[2:]}", compare(program, words, FOUR, fault(1, f"word 3: {three[0][1]}"))
     for words, cause in ((["walk", "-v"], "word 1: Command"), (["walk", "program=dns", "color=red"], "word 1: Command"),
@@ -355,14 +357,15 @@ def bare_words(program):
 
 
 # Names that no operand has, and values of each kind: good ones, the ends of ranges, one too many, and other texts.
-NO_NAMES = ["", "Program", "programs", "core", "delay", "x" * 300]
+NO_NAMES = ["", "Program", "programs", "core", "delays", "x" * 300]
 NUMBERS = ["0", "1", "2", "7", "16", "17", "64", "65", "007", "0" * 30 + "3", "4096", "4097", "65536", "65537", NINES]
 TEXTS = ["", "x", "-1", "1x", " 1", "1=1", "yes", "no", "YES", "1,2,3", "0,1,2", "1,2", "0,x,1", "80,443,65536"]
 LISTS = ["1", "1,2", "2-4", "1-9/3", "1,,2", "0", "3-1", "1-", "1/2", "00002-4/01", "1000000000", "1000000001", "2,0,x"]
+DELAYS = ["1:1", "1:2,3:1", "4:1000", "2:2,2:2", "0:1", "1:0", "1", "1:", "1:1,,2:1", "1:1001", "1000000000:01", "1:1,x"]
 NAMES = [*OWN, "dns", "chain", "table", "", "ddos "]
 TABLES = ["0:*>0/P", "0:t>3/D,0:*>0/P,3:*>3/D", "0:u>1/P,0:*>0/D,1:*>0/P", "", "x", "0:*>0/P,", "16:*>0/P", "0:t>0/P",
           "0:*>4/P"]
-VALUES = {"drop": LISTS, "program": NAMES, "first": NAMES, "second": NAMES, "table": TABLES}
+VALUES = {"drop": LISTS, "repeat": LISTS, "delay": DELAYS, "program": NAMES, "first": NAMES, "second": NAMES, "table": TABLES}
 RANDOM_LISTS = 600
 
 

@@ -38,8 +38,9 @@ def answer(words, capture=b""):
     except Malformed as malformed:
         return fault(malformed.status, malformed.cause)
     if command == "plain":
-        given = {**given, "cores": 1, "history": 0, "drop": []}
-    planned = plan.Plan(len(read), given["cores"], given["history"], given["drop"])
+        given = {**given, "cores": 1, "history": 0, "drop": [], "repeat": [], "delay": []}
+    link = plan.Link(given["drop"], given["repeat"], given["delay"])
+    planned = plan.Plan(len(read), given["cores"], given["history"], link)
     kept = sorted(planned.kept)
     verdicts, flows = folds.fold(given, [read[number - 1] for number in kept])
     lines = report.lines(command, folds.names_of(given), planned, dict(zip(kept, verdicts)), flows)

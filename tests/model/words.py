@@ -2,7 +2,7 @@
 import re
 import sys
 
-from . import tables
+from . import lists, tables
 from .folds import FIRSTS, NAMES, SECONDS
 from .programs import PROGRAMS
 
@@ -15,7 +15,8 @@ if hasattr(sys, "set_int_max_str_digits"):
 # The operands: the commands or the program that take them, and a number's least, greatest and default. Some are required.
 OPERANDS = {
     "program": (ALL, None), "flows": (ALL, (1, 65_536, 4_096)),
-    "cores": (CORES, (1, 16, 1)), "history": (CORES, (0, 64, None)), "drop": (CORES, None),
+    "cores": (CORES, (1, 16, 1)), "history": (CORES, (0, 64, None)),
+    "drop": (CORES, None), "repeat": (CORES, None), "delay": (CORES, None),
     "ring": (CORES, (1, 4_096, 1_024)), "threads": (CORES, None),
     "start": (LOAD, (0, 2**64 - 1, 0)), "frames": (LOAD, (0, 1_000_000, 1_000)), "hosts": (LOAD, (1, 65_536, 16)),
     "threshold": ("ddos", (0, 2**32 - 1, 1_000)), "bytes": ("heavy", (1, 10**12, 1_000_000)),
@@ -25,7 +26,6 @@ OPERANDS = {
 }
 PROGRAM_NAMES = {"program": NAMES, "first": FIRSTS, "second": SECONDS}
 REQUIRED = {"chain": ("program", "first", "second"), "table": ("program", "table")}
-LARGEST_DROP, MOST_PIECES = 10**9, 256
 
 
 class Refused(Exception):
@@ -104,8 +104,10 @@ def value_of(name, text, given):
         return program_of(name, text.decode(), given)
     if name == "threads":
         return text, None if text in (b"yes", b"no") else "Value"
-    if name == "drop":
-        return drop_list(text)
+    if name in ("drop", "repeat"):
+        return lists.ranges(name.capitalize(), text)
+    if name == "delay":
+        return lists.delays(text)
     if name == "table":
         return tables.read(text)
     least, greatest, _ = OPERANDS[name][1]
@@ -125,49 +127,12 @@ def program_of(name, text, given):
     return text, "Same" if is_same else None
 
 
-def drop_list(text):
-    """The pieces as (first, last, step), and why the list is refused."""
-    if not text:
-        return [], None
-    pieces, place = [], 0
-    for piece in text.split(b","):
-        cause = why_not_dropped(piece, len(pieces) + 1)
-        if cause:
-            return None, f"Drop {cause} at {place}"
-        first, last, step = numbers_of(piece)
-        pieces.append((first, first if last is None else last, 1 if step is None else step))
-        place += len(piece) + 1
-    return pieces, None
-
-
-def numbers_of(piece):
-    """The three numbers of a piece, None for those that it leaves out; or None where it has none of the forms."""
-    found = re.fullmatch(rb"([0-9]+)(?:-([0-9]+)(?:/([0-9]+))?)?", piece)
-    return found and [None if text is None else int(text) for text in found.groups()]
-
-
-def why_not_dropped(piece, count):
-    if not piece:
-        return "Empty"
-    found = numbers_of(piece)
-    if not found:
-        return "Digit"
-    numbers = [number for number in found if number is not None]
-    if 0 in numbers:
-        return "Zero"
-    if max(numbers) > LARGEST_DROP:
-        return "TooLarge"
-    if found[1] is not None and found[0] > found[1]:
-        return "Range"
-    return "Pieces" if count > MOST_PIECES else None
-
-
 def defaults(command, programs, cores):
     """The values of the operands that the words leave out."""
     taken = {name: numbers for name, (takers, numbers) in OPERANDS.items() if command in takers or takers in programs}
     values = {name: numbers[2] for name, numbers in taken.items() if numbers}
     if "cores" in taken:
-        values.update(history=cores - 1, drop=[], threads=b"yes")
+        values.update(history=cores - 1, drop=[], repeat=[], delay=[], threads=b"yes")
     if "ports" in taken:
         values["ports"] = [7_000, 8_000, 9_000]
     return values
