@@ -5,6 +5,7 @@ pub mod HeadsTaken
 pub mod BlockTaken
 pub mod Stepping
 pub mod EitherReading
+pub mod Joining
 pub mod OneReading
 pub mod SomeReading
 pub mod UnitOptions
