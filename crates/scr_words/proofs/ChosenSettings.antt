@@ -9,6 +9,11 @@ use mathlib.Core.Bool.{Bool-set}
 use Rattle.scr_base.specs.Numbers.{is_number, number_of}
 use Rattle.scr_plan.proofs.OneReading.{Spells-same}
 use Rattle.scr_plan.specs.Link.{Link}
+use Rattle.scr_plan.specs.Spelling.{read_at, Spells}
+use Rattle.scr_plan.specs.DelaySpelling.{delay_read_at, SpellsDelays}
+use Rattle.scr_plan.specs.declared.drops.DropRange.{DropRange}
+use Rattle.scr_plan.specs.declared.delays.FrameDelay.{FrameDelay}
+use Rattle.scr_words.specs.declared.word_fault.WordCause.TheVariants.{Drop, Repeat, Delay}
 use Rattle.scr_program.specs.declared.setting.SettingError.TheVariants.{Value, Range}
 use Rattle.scr_knock.specs.Ports.{is_comma, is_port, ports_of}
 use Rattle.scr_knock.specs.declared.settings.KnockSettings.{KnockSettings}
@@ -18,7 +23,7 @@ use Rattle.scr_tables.specs.declared.rule.Rule.{Rule}
 use Rattle.scr_tables.specs.declared.settings.TableSettings.{TableSettings}
 use Rattle.scr_tables.proofs.OneReading as tables_are
 use Rattle.scr_tables.proofs.Spelled.{IsTable-from_rules}
-use Rattle.scr_words.specs.Limits.{most_flows}
+use Rattle.scr_program.specs.declared.table.TheConstants.{MOST_FLOWS}
 use Rattle.scr_words.specs.declared.settings.Command.{Command}
 use Rattle.scr_words.specs.declared.settings.ProgramSettings.{ProgramSettings}
 use Rattle.scr_words.specs.declared.settings.ProgramSettings.TheVariants.{One, Chain, Table}
@@ -38,8 +43,8 @@ use Rattle.scr_words.specs.WordTests.{HaveFaultlessValues}
 use Rattle.scr_words.specs.GivenSettings.{value_for, number_for, history_for, HasPorts, HasNumbers, name_of, HasProgram, HasLink, HasShape, AreChosen}
 use Rattle.scr_words.proofs.GivenValues.{value_for-passes}
 use Rattle.scr_words.proofs.FaultlessWords.{lacks-program, lacks-table, lacks-first, lacks-second}
-use Rattle.scr_words.proofs.TextFaults.{drop_list_fault-empty, table-some}
-use Rattle.scr_words.proofs.FaultlessValues.{Spells-some, number-inside, history-short}
+use Rattle.scr_words.proofs.TextFaults.{list_fault-empty, ranges-some, delays-some, delays-same, table-some}
+use Rattle.scr_words.proofs.FaultlessValues.{number-inside, history-short}
 
 -- ports without a fault
 read-some : {A : Type 0} (numbers ports : Bool) (read : A) → setting_fault (cond (not numbers) (Err Value) (cond (not ports) (Err Range) (Ok read))) ≡ None
@@ -104,7 +109,7 @@ is_table : {a b : List Rule} (e : a ≡ b) (p : IsTable a) (q : IsTable b) → P
 is_table {b = b} e p q = to_path_p (λ i. IsTable (e i)) (IsTable-prop b _ q)
 
 module _ (operands : List (List ℕ)) (values : HaveFaultlessValues operands) where
-  flows_inside : (1 ≤ number_for operand.Flows operands) × (number_for operand.Flows operands ≤ most_flows)
+  flows_inside : (1 ≤ number_for operand.Flows operands) × (number_for operand.Flows operands ≤ MOST_FLOWS)
   flows_inside = number-inside operands values operand.Flows refl refl
 
   ports_are : ArePorts-of (value_for operand.Ports operands)
@@ -257,15 +262,33 @@ module _ (operands : List (List ℕ)) (values : HaveFaultlessValues operands) wh
   program-same (Table a) (One b) has_a has_b = absurd (cc (has_a.0, has_b.0))
   program-same (Table a) (Chain b d) has_a has_b = absurd (cc (has_a.0, has_b.0))
 
+  pub drops_some : (ranges : List DropRange) × Spells (value_for operand.Drop operands) ranges
+  drops_some = ranges-some Drop (value_for operand.Drop operands) (value_for-passes operand.Drop operands values (list_fault-empty read_at Drop))
+
+  pub repeats_some : (ranges : List DropRange) × Spells (value_for operand.Repeat operands) ranges
+  repeats_some = ranges-some Repeat (value_for operand.Repeat operands) (value_for-passes operand.Repeat operands values (list_fault-empty read_at Repeat))
+
+  pub delays_some : (delays : List FrameDelay) × SpellsDelays (value_for operand.Delay operands) delays
+  delays_some = delays-some Delay (value_for operand.Delay operands) (value_for-passes operand.Delay operands values (list_fault-empty delay_read_at Delay))
+
+  link_some : (link : Link) × HasLink operands link
+  link_some =
+      let (drops, spells_drops) = drops_some in
+      let (repeats, spells_repeats) = repeats_some in
+      let (delays, spells_delays) = delays_some in (
+        record { drops = drops; repeats = repeats; delays = delays; missing = [] },
+        record { drops = spells_drops; repeats = spells_repeats; delays = spells_delays; missing = refl },
+      )
+
   shape_some : (shape : Shape) × HasShape operands shape
   shape_some =
-      let (ranges, spells) = Spells-some (value_for operand.Drop operands) (value_for-passes operand.Drop operands values drop_list_fault-empty) in
+      let (link, has_link) = link_some in
       let cores = number-inside operands values operand.Cores refl refl in
       let ring = number-inside operands values operand.Ring refl refl in
       let shape : Shape = record {
         cores = number_for operand.Cores operands;
         history = history_for operands;
-        link = record { drops = ranges; repeats = []; delays = []; missing = [] };
+        link = link;
         ring = number_for operand.Ring operands;
         threads = bytes_eq (value_for operand.Threads operands) (codes "yes");
         some_cores = cores.0;
@@ -274,7 +297,7 @@ module _ (operands : List (List ℕ)) (values : HaveFaultlessValues operands) wh
         some_ring = ring.0;
         short_ring = ring.1;
       } in
-      (shape, record { cores = refl; history = refl; link = record { drops = spells; repeats = refl; delays = refl; missing = refl }; ring = refl; threads = refl })
+      (shape, record { cores = refl; history = refl; link = has_link; ring = refl; threads = refl })
 
   -- the words choose some program, or a required operand is absent
   abbrev SomeProgram : Type 0
@@ -351,8 +374,8 @@ Shape-same a b cores history link ring threads = λ i. record {
 HasLink-same : (operands : List (List ℕ)) (a b : Link) → HasLink operands a → HasLink operands b → a ≡ b
 HasLink-same operands a b of_a of_b =
     let drops = Spells-same (value_for operand.Drop operands) a.drops b.drops of_a.drops of_b.drops in
-    let repeats = of_a.repeats ∙ sym of_b.repeats in
-    let delays = of_a.delays ∙ sym of_b.delays in
+    let repeats = Spells-same (value_for operand.Repeat operands) a.repeats b.repeats of_a.repeats of_b.repeats in
+    let delays = delays-same (value_for operand.Delay operands) a.delays b.delays of_a.delays of_b.delays in
     let missing = of_a.missing ∙ sym of_b.missing in
     λ i. record { drops = drops i; repeats = repeats i; delays = delays i; missing = missing i }
 

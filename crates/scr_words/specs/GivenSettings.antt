@@ -5,6 +5,7 @@ use Rattle.std.specs.Str.{bytes_eq}
 use Rattle.scr_base.specs.Numbers.{number_of}
 use Rattle.scr_plan.specs.Link.{Link}
 use Rattle.scr_plan.specs.Spelling.{Spells}
+use Rattle.scr_plan.specs.DelaySpelling.{SpellsDelays}
 use Rattle.scr_knock.specs.Ports.{ports_in}
 use Rattle.scr_tables.specs.Spelling as tables
 use Rattle.scr_words.specs.declared.settings.ProgramSettings.{ProgramSettings}
@@ -78,8 +79,8 @@ HasProgram operands (Table settings) = (program_in operands ≡ Some program.Tab
 -- what lies between the sequencer and the cores
 pub record HasLink (operands : List (List ℕ)) (link : Link) : Type 0 where
   pub drops : Spells (value_for operand.Drop operands) link.drops
-  pub repeats : link.repeats ≡ []
-  pub delays : link.delays ≡ []
+  pub repeats : Spells (value_for operand.Repeat operands) link.repeats
+  pub delays : SpellsDelays (value_for operand.Delay operands) link.delays
   pub missing : link.missing ≡ []
 
 -- how frames go to cores

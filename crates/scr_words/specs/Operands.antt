@@ -4,7 +4,9 @@ use Rattle.std.specs.Prelude.{ℕ, ◌≤◌, ⊤, Bool, true, false, ◌||◌, 
 use Rattle.std.specs.List.{find}
 use Rattle.std.specs.Option.{option_map_or}
 use Rattle.std.specs.Str.{bytes_eq}
-use Rattle.scr_words.specs.Limits.{most_flows, most_cores, most_history, most_ring, most_frames, most_hosts}
+use Rattle.scr_plan.specs.Limits.{most_cores, longest_history}
+use Rattle.scr_program.specs.declared.table.TheConstants.{MOST_FLOWS}
+use Rattle.scr_words.specs.Limits.{most_ring, most_frames, most_hosts}
 use Rattle.scr_words.specs.declared.settings.Command.{Command}
 use Rattle.scr_words.specs.declared.settings.Command.TheVariants.{Run, Plain, Load}
 use Rattle.scr_words.specs.declared.program_name.OneName.{OneName}
@@ -17,7 +19,7 @@ use Rattle.scr_words.specs.declared.operand.Operand.TheVariants as operand
 use Rattle.scr_words.specs.declared.operand.Taker.{Taker}
 use Rattle.scr_words.specs.declared.operand.Taker.TheVariants as taker
 use Rattle.scr_words.specs.declared.operand.Form.{Form}
-use Rattle.scr_words.specs.declared.operand.Form.TheVariants.{OneProgram, Number, DropList, YesNo, ThreePorts, FirstProgram, SecondProgram, TableText}
+use Rattle.scr_words.specs.declared.operand.Form.TheVariants.{OneProgram, Number, DropList, RepeatList, DelayList, YesNo, ThreePorts, FirstProgram, SecondProgram, TableText}
 
 -- the names of the commands and of the programs
 abbrev pub command_name : Command → List ℕ
@@ -77,10 +79,12 @@ taker_of one = taker.Program (program.One one)
 -- The table. Programs and a table have no default, and the default history is one less than the cores.
 abbrev pub table : Operand → Line
 table operand.Program = line (codes "program") taker.Every OneProgram []
-table operand.Flows = line (codes "flows") taker.Every (Number 1 most_flows) (codes "4096")
+table operand.Flows = line (codes "flows") taker.Every (Number 1 MOST_FLOWS) (codes "4096")
 table operand.Cores = line (codes "cores") taker.WithCores (Number 1 most_cores) (codes "1")
-table operand.History = line (codes "history") taker.WithCores (Number 0 most_history) []
+table operand.History = line (codes "history") taker.WithCores (Number 0 longest_history) []
 table operand.Drop = line (codes "drop") taker.WithCores DropList []
+table operand.Repeat = line (codes "repeat") taker.WithCores RepeatList []
+table operand.Delay = line (codes "delay") taker.WithCores DelayList []
 table operand.Ring = line (codes "ring") taker.WithCores (Number 1 most_ring) (codes "1024")
 table operand.Threads = line (codes "threads") taker.WithCores YesNo (codes "yes")
 table operand.Start = line (codes "start") taker.LoadAlone (Number 0 18446744073709551615) (codes "0")
@@ -98,8 +102,8 @@ table operand.Table = line (codes "table") (taker.Program program.Table) TableTe
 
 abbrev pub all_operands : List Operand
 all_operands =
-    operand.Program ∷ operand.Flows ∷ operand.Cores ∷ operand.History ∷ operand.Drop ∷ operand.Ring ∷ operand.Threads
-    ∷ operand.Start ∷ operand.Frames ∷ operand.Hosts ∷ operand.Threshold ∷ operand.Bytes ∷ operand.Rate ∷ operand.Burst
+    operand.Program ∷ operand.Flows ∷ operand.Cores ∷ operand.History ∷ operand.Drop ∷ operand.Repeat ∷ operand.Delay
+    ∷ operand.Ring ∷ operand.Threads ∷ operand.Start ∷ operand.Frames ∷ operand.Hosts ∷ operand.Threshold ∷ operand.Bytes ∷ operand.Rate ∷ operand.Burst
     ∷ operand.Ports ∷ operand.Idle ∷ operand.First ∷ operand.Second ∷ operand.Table ∷ []
 
 -- the operand with a name

@@ -16,10 +16,10 @@ use Rattle.scr_words.specs.declared.program_name.Choice.{Choice}
 use Rattle.scr_words.specs.declared.operand.Operand.{Operand}
 use Rattle.scr_words.specs.declared.operand.Operand.TheVariants as operand
 use Rattle.scr_words.specs.declared.operand.Form.{Form}
-use Rattle.scr_words.specs.declared.operand.Form.TheVariants.{OneProgram, Number, DropList, YesNo, ThreePorts, FirstProgram, SecondProgram, TableText}
+use Rattle.scr_words.specs.declared.operand.Form.TheVariants.{OneProgram, Number, DropList, RepeatList, DelayList, YesNo, ThreePorts, FirstProgram, SecondProgram, TableText}
 use Rattle.scr_words.specs.Operands.{all_firsts, all_ones, table, operand_named, command_named, one_named, program_named, is_taken, required}
 use Rattle.scr_words.specs.WordParts.{has_equals, name_in, value_in, is_named, given, is_absent, program_in, chosen}
-use Rattle.scr_words.specs.TextFaults.{drop_list_fault, table_fault}
+use Rattle.scr_words.specs.TextFaults.{drop_list_fault, repeat_list_fault, delay_list_fault, table_fault}
 
 -- the fault of a value that is read as a setting is
 abbrev pub setting_cause : SettingError → WordCause
@@ -40,6 +40,8 @@ abbrev pub value_fault : Form → List ℕ → Option WordCause
 value_fault OneProgram value = name_fault (is_some (program_named value))
 value_fault (Number least greatest) value = setting_fault (setting_within value least greatest)
 value_fault DropList value = drop_list_fault value
+value_fault RepeatList value = repeat_list_fault value
+value_fault DelayList value = delay_list_fault value
 value_fault YesNo value =
     if bytes_eq value (codes "yes") || bytes_eq value (codes "no") then None else Some cause.Value
 value_fault ThreePorts value = setting_fault (ports_in value)

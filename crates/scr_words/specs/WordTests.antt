@@ -1,11 +1,6 @@
 -- What the tests of words answer.
 use Rattle.std.specs.Prelude.{◌≡◌, ℕ, IsTrue, MatchOption, List, Option, Some, None, Result, Ok, Err}
-use Rattle.scr_plan.specs.declared.reading.DropError.{DropError}
-use Rattle.scr_plan.specs.declared.reading.DropError.TheVariants as drop
-use Rattle.scr_tables.specs.declared.reading.TableError.{TableError}
-use Rattle.scr_tables.specs.declared.reading.TableError.TheVariants as rules
 use Rattle.scr_words.specs.declared.word_fault.WordCause.{WordCause}
-use Rattle.scr_words.specs.declared.word_fault.WordCause.TheVariants as cause
 use Rattle.scr_words.specs.declared.settings.Command.{Command}
 use Rattle.scr_words.specs.declared.operand.Operand.{Operand}
 use Rattle.scr_words.specs.declared.faults.TestError.{TestError}
@@ -15,14 +10,6 @@ use Rattle.scr_words.specs.declared.reading.WordsError.TheVariants as words
 use Rattle.scr_words.specs.Operands.{table}
 use Rattle.scr_words.specs.WordParts.{given}
 use Rattle.scr_words.specs.WordFaults.{value_fault, lacks_operand, IsFirstFault, AreRefused}
-
-abbrev pub drop_error : DropError → TestError
-drop_error (drop.Refused refusal place) = test.Refused (cause.Drop refusal place)
-drop_error (drop.OutOfMemory want) = test.OutOfMemory want
-
-abbrev pub table_error : TableError → TestError
-table_error (rules.Refused refusal place) = test.Refused (cause.Table refusal place)
-table_error (rules.OutOfMemory want) = test.OutOfMemory want
 
 -- a test passes where there is no fault, and refuses with the fault that there is, unless memory runs out
 abbrev pub Tells : Option WordCause → Result (Unit {0}) TestError → Type 0

@@ -1,6 +1,11 @@
-ghost use Rattle.std.specs.Prelude.{◌≡◌, ◌≤◌, IsTrue, Some, None, IfOk};
+ghost use Rattle.std.specs.Prelude.{◌≡◌, ◌≤◌, IsTrue, List, Some, None, IfOk};
 ghost use Rattle.scr_base.specs.Numbers.{number_of};
+ghost use Rattle.scr_plan.specs.Limits.{most_cores, longest_history};
 ghost use Rattle.scr_plan.specs.Spelling.{Spells};
+ghost use Rattle.scr_plan.specs.DelaySpelling.{SpellsDelays};
+ghost use Rattle.scr_plan.specs.declared.drops.DropRange.{DropRange};
+ghost use Rattle.scr_plan.specs.declared.delays.FrameDelay.{FrameDelay};
+ghost use Rattle.scr_program.specs.declared.table.TheConstants.{MOST_FLOWS};
 ghost use Rattle.scr_words.specs.Operands.{table, is_numeric, IsWithin};
 ghost use Rattle.scr_words.specs.WordParts.{program_in, chosen};
 ghost use Rattle.scr_words.specs.WordFaults.{value_fault};
@@ -17,7 +22,7 @@ use scr_conn::ConnSettings;
 use scr_ddos::DdosSettings;
 use scr_heavy::HeavySettings;
 use scr_knock::KnockSettings;
-use scr_plan::{DropError, Drops, Link};
+use scr_plan::{DelayError, Delays, DropError, Drops, Link};
 use scr_tables::{Table, TableError, TableSettings};
 use std::alloc::Global;
 
@@ -116,7 +121,7 @@ fn one_settings(name: OneName, operands: &[Word]) -> OneSettings
 
 fn knock_settings(flows: u32, operands: &[Word]) -> KnockSettings
     requires some { 1 ≤ flows }
-    requires few { flows ≤ 65536 }
+    requires few { flows ≤ MOST_FLOWS }
     requires values { HaveFaultlessValues operands.now }
     ensures ports { HasPorts (value_for Operand.Ports operands.now) result }
     ensures flows { result.flows ≡ flows }
@@ -144,10 +149,10 @@ fn shape(alloc: Global, operands: &[Word]) -> Result<Shape, OutOfMemory>
 fn history(cores: u32, operands: &[Word]) -> u32
     requires cores { cores ≡ number_for Operand.Cores operands.now }
     requires some { 1 ≤ cores }
-    requires few { cores ≤ 16 }
+    requires few { cores ≤ most_cores }
     requires values { HaveFaultlessValues operands.now }
     ensures history { result ≡ history_for operands.now }
-    ensures short { result ≤ 64 }
+    ensures short { result ≤ longest_history }
 {
     match given(Operand::History.line().name, operands) {
         Some(text) => spelled(Operand::History, text) as u32,
@@ -159,18 +164,33 @@ fn link(alloc: Global, operands: &[Word]) -> Result<Link, OutOfMemory>
     requires values { HaveFaultlessValues operands.now }
     ensures { IfOk result (HasLink operands.now) }
 {
-    let drops = drop_list(alloc, operands)?;
-    Ok(Link::dropping(alloc, drops))
+    let drops = ranges(alloc, value(Operand::Drop, operands))?;
+    let repeats = ranges(alloc, value(Operand::Repeat, operands))?;
+    let delays = delays(alloc, value(Operand::Delay, operands))?;
+    Ok(Link::make(alloc, drops, repeats, delays))
 }
 
-fn drop_list(alloc: Global, operands: &[Word]) -> Result<Drops, OutOfMemory>
-    requires values { HaveFaultlessValues operands.now }
-    ensures { IfOk result (Spells (value_for Operand.Drop operands.now)) }
+// The ranges that a tested text spells.
+fn ranges(alloc: Global, text: &[u8]) -> Result<Drops, OutOfMemory>
+    requires { (ranges : List DropRange) × Spells text.now ranges }
+    ensures { IfOk result (Spells text.now) }
 {
-    match Drops::read(alloc, value(Operand::Drop, operands)) {
+    match Drops::read(alloc, text) {
         Ok(drops) => Ok(drops),
         Err(DropError::OutOfMemory(want)) => Err(want),
         Err(DropError::Refused { .. }) => unreachable!(),
+    }
+}
+
+// The delays that a tested text spells.
+fn delays(alloc: Global, text: &[u8]) -> Result<Delays, OutOfMemory>
+    requires { (delays : List FrameDelay) × SpellsDelays text.now delays }
+    ensures { IfOk result (SpellsDelays text.now) }
+{
+    match Delays::read(alloc, text) {
+        Ok(delays) => Ok(delays),
+        Err(DelayError::OutOfMemory(want)) => Err(want),
+        Err(DelayError::Refused { .. }) => unreachable!(),
     }
 }
 

@@ -8,12 +8,11 @@ use crate::parts::{chosen, given, is_named, parts_of};
 use crate::program_name::{Choice, FIRSTS, ONES, OneName, ProgramName};
 use crate::reading::WordsError;
 use crate::settings::Command;
+use crate::texts::{test_delays, test_drops, test_repeats, test_table};
 use crate::word_fault::{WordCause, WordFault};
 use scr_base::{OutOfMemory, Word};
 use scr_knock::KnockSettings;
-use scr_plan::{DropError, Drops};
 use scr_program::{SettingError, read_setting};
-use scr_tables::{Table, TableError};
 use std::alloc::Global;
 
 /// Why the test of a word didn't pass.
@@ -38,38 +37,6 @@ impl From<SettingError> for TestError {
             SettingError::Value => WordCause::Value,
             SettingError::Range => WordCause::Range,
         })
-    }
-}
-
-impl From<DropError> for TestError {
-    ghost use Rattle.std.specs.Prelude.{◌≡◌};
-    ghost use Rattle.scr_words.specs.WordTests.{drop_error};
-
-    ghost from_gives = { λ error made. made ≡ drop_error error };
-
-    fn from(error: DropError) -> Self {
-        match error {
-            DropError::Refused { cause, place } => {
-                TestError::Refused(WordCause::Drop { cause, place })
-            }
-            DropError::OutOfMemory(want) => TestError::OutOfMemory(want),
-        }
-    }
-}
-
-impl From<TableError> for TestError {
-    ghost use Rattle.std.specs.Prelude.{◌≡◌};
-    ghost use Rattle.scr_words.specs.WordTests.{table_error};
-
-    ghost from_gives = { λ error made. made ≡ table_error error };
-
-    fn from(error: TableError) -> Self {
-        match error {
-            TableError::Refused { cause, place } => {
-                TestError::Refused(WordCause::Table { cause, place })
-            }
-            TableError::OutOfMemory(want) => TestError::OutOfMemory(want),
-        }
     }
 }
 
@@ -164,10 +131,9 @@ fn test_value(alloc: Global, form: Form, value: &[u8]) -> Result<(), TestError>
             let _ = read_setting(value, least, greatest)?;
             Ok(())
         }
-        Form::DropList => {
-            let _ = Drops::read(alloc, value)?;
-            Ok(())
-        }
+        Form::DropList => test_drops(alloc, value),
+        Form::RepeatList => test_repeats(alloc, value),
+        Form::DelayList => test_delays(alloc, value),
         Form::YesNo => {
             if value != b"yes".as_slice() && value != b"no".as_slice() {
                 return Err(TestError::Refused(WordCause::Value));
@@ -178,10 +144,7 @@ fn test_value(alloc: Global, form: Form, value: &[u8]) -> Result<(), TestError>
             KnockSettings::new(1).set(b"ports", value)?;
             Ok(())
         }
-        Form::TableText => {
-            let _ = Table::read(alloc, value)?;
-            Ok(())
-        }
+        Form::TableText => test_table(alloc, value),
     }
 }
 

@@ -4,7 +4,7 @@
 //! leave out, or the first word that is refused, with its first cause. [`put_word_line`] writes the line of a refused word.
 //!
 //! **What a contract sees.** Words as lists of bytes. The table of operands is specs/Operands.antt, with the limits in
-//! specs/Limits.antt; why words are refused is specs/WordFaults.antt, with specs/TextFaults.antt for drop lists and tables;
+//! specs/Limits.antt; why words are refused is specs/WordFaults.antt, with specs/TextFaults.antt for lists and tables;
 //! which settings they choose is specs/GivenSettings.antt, and the line specs/WordLines.antt.
 //!
 //! **What is proved.** Settings come only for words that are accepted, a refusal only for those that are refused, each by its
@@ -14,7 +14,7 @@
 //! **What is only tested.** That there are settings where there is memory, since no contract sees how much there is. That
 //! settings and lines, written by hand, are what the definitions say.
 //!
-//! **Limits.** Fewer than 2^32 - 1 words. The drop list and the table alone are kept in memory.
+//! **Limits.** Fewer than 2^32 - 1 words. The lists of the link and the table alone are kept in memory.
 #![tactic(auto)]
 
 mod choosing;
@@ -27,6 +27,7 @@ mod reading;
 mod settings;
 #[cfg(test)]
 mod tests;
+mod texts;
 mod word_fault;
 mod word_line;
 

@@ -3,12 +3,11 @@ ghost use Rattle.scr_words.specs.Operands.{command_name, command_named, operand_
 
 use crate::program_name::{Choice, OneName, ProgramName};
 use crate::settings::Command;
-
-const MOST_FLOWS: u64 = 65_536;
+use scr_program::MOST_FLOWS;
 
 const MOST_CORES: u64 = 16;
 
-const MOST_HISTORY: u64 = 64;
+const LONGEST_HISTORY: u64 = 64;
 
 const MOST_RING: u64 = 4096;
 
@@ -26,6 +25,8 @@ pub(crate) enum Operand {
     Cores,
     History,
     Drop,
+    Repeat,
+    Delay,
     Ring,
     Threads,
     Start,
@@ -42,12 +43,14 @@ pub(crate) enum Operand {
     Table,
 }
 
-const OPERANDS: [Operand; 19] = [
+const OPERANDS: [Operand; 21] = [
     Operand::Program,
     Operand::Flows,
     Operand::Cores,
     Operand::History,
     Operand::Drop,
+    Operand::Repeat,
+    Operand::Delay,
     Operand::Ring,
     Operand::Threads,
     Operand::Start,
@@ -86,6 +89,10 @@ pub(crate) enum Form {
     Number { least: u64, greatest: u64 },
     /// A drop list.
     DropList,
+    /// A list of repeats, which has the form of a drop list.
+    RepeatList,
+    /// A list of delays.
+    DelayList,
     /// `yes` or `no`.
     YesNo,
     /// Three ports, parted by commas.
@@ -135,10 +142,22 @@ impl Operand {
         let table = Taker::Program(ProgramName::Table);
         match self {
             Operand::Program => line(b"program", Taker::Every, Form::OneProgram, b""),
-            Operand::Flows => line(b"flows", Taker::Every, number(1, MOST_FLOWS), b"4096"),
+            Operand::Flows => line(
+                b"flows",
+                Taker::Every,
+                number(1, u64::from(MOST_FLOWS)),
+                b"4096",
+            ),
             Operand::Cores => line(b"cores", Taker::WithCores, number(1, MOST_CORES), b"1"),
-            Operand::History => line(b"history", Taker::WithCores, number(0, MOST_HISTORY), b""),
+            Operand::History => line(
+                b"history",
+                Taker::WithCores,
+                number(0, LONGEST_HISTORY),
+                b"",
+            ),
             Operand::Drop => line(b"drop", Taker::WithCores, Form::DropList, b""),
+            Operand::Repeat => line(b"repeat", Taker::WithCores, Form::RepeatList, b""),
+            Operand::Delay => line(b"delay", Taker::WithCores, Form::DelayList, b""),
             Operand::Ring => line(b"ring", Taker::WithCores, number(1, MOST_RING), b"1024"),
             Operand::Threads => line(b"threads", Taker::WithCores, Form::YesNo, b"yes"),
             Operand::Start => line(b"start", Taker::LoadAlone, number(0, u64::MAX), b"0"),

@@ -14,7 +14,7 @@ use std::alloc::Global;
 pub enum WordsError {
     /// The first word that is refused, with its first cause.
     Refused(WordFault),
-    /// There was no memory for the drop list or the table.
+    /// There was no memory for a list of the link or the table.
     OutOfMemory(OutOfMemory),
 }
 

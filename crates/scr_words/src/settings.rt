@@ -1,5 +1,6 @@
 ghost use Rattle.std.specs.Prelude.{◌≤◌};
-ghost use Rattle.scr_words.specs.Limits.{most_cores, most_history, most_ring, most_frames, most_hosts};
+ghost use Rattle.scr_plan.specs.Limits.{most_cores, longest_history};
+ghost use Rattle.scr_words.specs.Limits.{most_ring, most_frames, most_hosts};
 
 use scr_bucket::BucketSettings;
 use scr_conn::ConnSettings;
@@ -65,7 +66,7 @@ pub struct Shape {
     pub threads: bool,
     ghost some_cores: { 1 ≤ cores },
     ghost few_cores: { cores ≤ most_cores },
-    ghost short_history: { history ≤ most_history },
+    ghost short_history: { history ≤ longest_history },
     ghost some_ring: { 1 ≤ ring },
     ghost short_ring: { ring ≤ most_ring },
 }

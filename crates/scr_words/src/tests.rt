@@ -163,18 +163,27 @@ fn takes_the_shape_of_a_run(rt: HostRuntime) -> Result<(), Fail> {
     let shape = settings.shape;
     assert_eq!(rt; (shape.cores, shape.history, shape.ring), (3, 2, 7));
     assert!(rt; !shape.threads);
-    let link = shape.link;
-    let on_time = Fate::Once { delay: 0 };
-    assert_eq!(rt;
-        (link.fate(3), link.fate(5), link.fate(6), link.fate(9)),
-        (Fate::Lost, Fate::Lost, on_time, Fate::Lost)
-    );
     assert_eq!(rt;
         (settings.start, settings.frames, settings.hosts),
         (5, 0, 65_536)
     );
     let settings = read(rt.alloc(), "run history=0 program=ddos cores=16").map_err(|_| "refused")?;
     assert_eq!(rt; (settings.shape.cores, settings.shape.history), (16, 0));
+    Ok(())
+}
+
+#[test]
+fn takes_a_link(rt: HostRuntime) -> Result<(), Fail> {
+    let line = "run delay=6:2,0005:1000 program=ddos repeat=4-6/2,5 drop=3,5-9/2";
+    let settings = read(rt.alloc(), line).map_err(|_| "refused")?;
+    let link = settings.shape.link;
+    assert_eq!(rt; (link.fate(3), link.fate(5)), (Fate::Lost, Fate::Lost));
+    assert_eq!(rt; link.fate(4), Fate::Twice { delay: 0 });
+    assert_eq!(rt; link.fate(6), Fate::Twice { delay: 2 });
+    assert_eq!(rt; link.fate(8), Fate::Once { delay: 0 });
+    let line = "load repeat= delay=9:1,1000000000:1000 program=ddos";
+    let settings = read(rt.alloc(), line).map_err(|_| "refused")?;
+    assert_eq!(rt; settings.shape.link.fate(9), Fate::Once { delay: 1 });
     Ok(())
 }
 

@@ -1,4 +1,4 @@
-use scr_plan::DropCause;
+use scr_plan::{DelayCause, DropCause};
 use scr_tables::TableCause;
 
 /// A refused word: its number, from 1, and why.
@@ -39,6 +39,20 @@ pub enum WordCause {
     /// All words are good, and none of them gives a required operand: the program, one of the two of a chain, or the table
     /// of a program given as one.
     Missing,
+    /// The repeat list is refused.
+    Repeat {
+        /// Why its first refused piece is refused.
+        cause: DropCause,
+        /// How many bytes stand before that piece.
+        place: u64,
+    },
+    /// The list of delays is refused.
+    Delay {
+        /// Why its first refused piece is refused.
+        cause: DelayCause,
+        /// How many bytes stand before that piece.
+        place: u64,
+    },
     /// The two programs of a chain are the same, and this is the later of their words.
     Same,
     /// The table is refused.

@@ -1,11 +1,11 @@
 ghost use Rattle.std.specs.Prelude.{◌≡◌, ◌++◌};
 ghost use Rattle.scr_base.specs.Causes.{CountsError};
 ghost use Rattle.scr_base.specs.Streams.{BatchesText};
-ghost use Rattle.scr_words.specs.WordLines.{word_line, cause_line, drop_cause_name, table_cause_name, placed};
+ghost use Rattle.scr_words.specs.WordLines.{word_line, cause_line, drop_cause_name, delay_cause_name, table_cause_name, placed};
 
 use crate::word_fault::{WordCause, WordFault};
 use scr_base::{Batch, Piece, Sink, SinkError};
-use scr_plan::DropCause;
+use scr_plan::{DelayCause, DropCause};
 use scr_tables::TableCause;
 
 /// Puts the line of a refused word into a batch. At `Err` a front of the line is in the batch and the sink: the sink failed,
@@ -47,6 +47,12 @@ fn put_cause<E: Sink>(batch: &mut Batch, err: &mut E, cause: WordCause) -> Resul
             put_placed(batch, err, b"Drop ", drop_cause_name(cause), place)
         }
         WordCause::Missing => batch.put(err, b"Missing\n"),
+        WordCause::Repeat { cause, place } => {
+            put_placed(batch, err, b"Repeat ", drop_cause_name(cause), place)
+        }
+        WordCause::Delay { cause, place } => {
+            put_placed(batch, err, b"Delay ", delay_cause_name(cause), place)
+        }
         WordCause::Same => batch.put(err, b"Same\n"),
         WordCause::Table { cause, place } => {
             put_placed(batch, err, b"Table ", table_cause_name(cause), place)
@@ -87,6 +93,19 @@ fn drop_cause_name(cause: DropCause) -> &'static [u8]
         DropCause::TooLarge => b"TooLarge",
         DropCause::Range => b"Range",
         DropCause::Pieces => b"Pieces",
+    }
+}
+
+fn delay_cause_name(cause: DelayCause) -> &'static [u8]
+    ensures { result.now ≡ delay_cause_name cause }
+{
+    match cause {
+        DelayCause::Empty => b"Empty",
+        DelayCause::Digit => b"Digit",
+        DelayCause::Zero => b"Zero",
+        DelayCause::TooLarge => b"TooLarge",
+        DelayCause::Twice => b"Twice",
+        DelayCause::Pieces => b"Pieces",
     }
 }
 

@@ -3,7 +3,7 @@
 use super::read;
 use crate::{WordCause, WordFault, WordsError, put_word_line, read_words};
 use scr_base::{Batch, SureSink, Word};
-use scr_plan::DropCause;
+use scr_plan::{DelayCause, DropCause};
 use scr_tables::TableCause;
 use std::alloc::Global;
 use std::test::Fail;
@@ -20,7 +20,7 @@ pub(super) fn at(word: u32, cause: WordCause) -> Option<WordFault> {
 }
 
 /// Words, and the line that must come.
-const REFUSED: [(&str, &str); 25] = [
+const REFUSED: [(&str, &str); 31] = [
     ("", "scr: word 1: NoCommand\n"),
     ("walk", "scr: word 1: Command\n"),
     ("run", "scr: word 2: Missing\n"),
@@ -50,6 +50,24 @@ const REFUSED: [(&str, &str); 25] = [
         "run program=ddos drop=12-1000000001",
         "scr: word 3: Drop TooLarge at 0\n",
     ),
+    (
+        "run program=ddos repeat=7-3",
+        "scr: word 3: Repeat Range at 0\n",
+    ),
+    (
+        "run program=ddos delay=0:1",
+        "scr: word 3: Delay Zero at 0\n",
+    ),
+    (
+        "load program=ddos delay=7:2,7:3",
+        "scr: word 3: Delay Twice at 4\n",
+    ),
+    (
+        "run program=ddos delay=1:1001",
+        "scr: word 3: Delay TooLarge at 0\n",
+    ),
+    ("plain program=ddos repeat=1", "scr: word 3: NotHere\n"),
+    ("plain program=ddos delay=1:1", "scr: word 3: NotHere\n"),
     (
         "run program=chain first=ddos second=ddos",
         "scr: word 4: Same\n",
@@ -92,7 +110,7 @@ fn writes_the_line_of_each_refusal(rt: HostRuntime) -> Result<(), Fail> {
 }
 
 /// Lines with more than one fault, each beside the same with the faults in the other order, or with one of them mended.
-const SEVERAL: [(&str, u32, WordCause); 65] = [
+const SEVERAL: [(&str, u32, WordCause); 68] = [
     // A word without `=` and a name that no operand has.
     ("run -v color=red", 2, WordCause::NoEquals),
     ("run color=red -v", 2, WordCause::UnknownName),
@@ -185,6 +203,28 @@ const SEVERAL: [(&str, u32, WordCause); 65] = [
         },
     ),
     ("run drop=1 drop=x", 3, WordCause::Twice),
+    // Each list is tested at its word.
+    (
+        "run drop=1 repeat=1 delay=1:1 repeat=x",
+        5,
+        WordCause::Twice,
+    ),
+    (
+        "run repeat=1,0 delay=1:x",
+        2,
+        WordCause::Repeat {
+            cause: DropCause::Zero,
+            place: 2,
+        },
+    ),
+    (
+        "run delay=1:1,1 repeat=0",
+        2,
+        WordCause::Delay {
+            cause: DelayCause::Digit,
+            place: 4,
+        },
+    ),
     ("plain drop=x", 2, WordCause::NotHere),
     (
         "run drop=1=2",
