@@ -129,8 +129,7 @@ def refused_links(program):
             ("run drop=1:1", "word 2: Drop Digit at 0"), ("run repeat=1:1", "word 2: Repeat Digit at 0"),
             ("run program=ddos delay=1-2", "word 3: Delay Digit at 0"), ("plain program=ddos repeat=0", "word 3: NotHere"),
             ("plain program=ddos delay=0:1", "word 3: NotHere"), ("plain repeat=", "word 2: NotHere"),
-            ("plain delay=", "word 2: NotHere"), ("run program=ddos delays=1:1", "word 3: UnknownName"),
-            ("run program=ddos repeats=1", "word 3: UnknownName"), ("run program=ddos delay", "word 3: NoEquals")):
+            ("plain delay=", "word 2: NotHere"), ("run program=ddos delay", "word 3: NoEquals")):
         yield words, compare(program, words, FOUR, fault(1, cause))
     yield "as many delays as there may be", compare(program, ["run", "program=ddos", "cores=3", f"delay={MANY}"], FOUR)
 

@@ -76,8 +76,8 @@ run program=ddos --threshold=2              | word 3: UnknownName
 run Program=ddos                            | word 2: UnknownName
 run programs=ddos                           | word 2: UnknownName
 run prog=ddos                               | word 2: UnknownName
-run program=ddos delay=1:1                  | word 3: UnknownName
-run program=ddos repeat=1                   | word 3: UnknownName
+run program=ddos delays=1:1                 | word 3: UnknownName
+run program=ddos repeats=1                  | word 3: UnknownName
 run program=ddos second_=ddos               | word 3: UnknownName
 run program=ddos First=ddos                 | word 3: UnknownName
 run program=table tables=0:*>0/P            | word 3: UnknownName
