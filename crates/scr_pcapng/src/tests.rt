@@ -149,23 +149,3 @@ fn keeps_a_failed_read(rt: HostRuntime) -> Result<(), Fail> {
     assert_eq!(rt; next, Err(AnyError::ReadFault));
     Ok(())
 }
-
-#[test]
-fn takes_units_of_ten_and_of_two(rt: HostRuntime) -> Result<(), Fail> {
-    let mut frame = FrameBuf::make(rt.alloc())?;
-    for value in 0..=255 {
-        let head = [32, 0, 0, 0, 1, 0, 0, 0, 0, 0, 4, 0];
-        let option = [9, 0, 1, 0, value, 0, 0, 0, 0, 0, 0, 0, 32, 0, 0, 0];
-        let parts: [&[u8]; 4] = [SECTION, &INTERFACE[..4], &head, &option];
-        let mut source = SureSource::new(joined(rt.alloc(), &parts)?, 4096);
-        let mut reader = AnyReader::begin(rt.alloc(), &mut source)?;
-        let taken = matches!(value, 0..20 | 128..192);
-        let want = if taken {
-            Ok(None)
-        } else {
-            Err(AnyError::Ng(NgError::Resolution { block: 2 }))
-        };
-        assert_eq!(rt; reader.next(&mut source, &mut frame), want);
-    }
-    Ok(())
-}
