@@ -394,6 +394,12 @@ const LATE: [(&[u8], &[u8], u32, u32, &[u32]); 10] = [
     (b"3", b"1:2,2:1", 1, 4, &[]),
 ];
 
+// Whether frame n is delivered, of so many frames to so many cores.
+fn is_delivered(link: &Link, cores: u32, frames: u32, n: u32) -> bool {
+    let within = cores <= 16 && 1 <= n && n <= frames && frames <= 1_000_000;
+    1 <= cores && within && link.delivered(cores, frames, n)
+}
+
 #[test]
 fn late_frames_that_are_overtaken_are_lost(rt: HostRuntime) -> Result<(), Fail> {
     for (drops, delays, cores, frames, lost) in LATE {
@@ -401,7 +407,7 @@ fn late_frames_that_are_overtaken_are_lost(rt: HostRuntime) -> Result<(), Fail> 
         for n in 1..=frames {
             let goes = link.fate(n) != Fate::Lost && !lost.contains(&n);
             assert_eq!(rt;
-                link.delivered(cores, frames, n),
+                is_delivered(&link, cores, frames, n),
                 goes,
                 "at {n} of {delays:?}"
             );
