@@ -46,7 +46,7 @@ def as_plain(program, chosen, data):
 def agreeing(program, calls, data):
     """What is wrong where the calls differ, or end with a status that no file gives."""
     first = outcome(program, calls[0].split(), data)
-    if first.status not in (0, 2, 6):
+    if first.status not in (0, 2, 6, 7):
         return f"words: {shown(calls[0].split())}\ncame:   status {first.status}, {first.err[:200]!r}"
     return next(filter(None, (difference(outcome(program, words.split(), data), first, words.split()) for words in calls[1:])),
                 None)
