@@ -7,7 +7,8 @@ import subprocess
 import tempfile
 
 import traffic
-from blocks import NAMES, OBSOLETE, STATISTICS, block, capture, enhanced, interface, option, section, simple, unit
+from blocks import (ENHANCED, INTERFACE, NAMES, OBSOLETE, SECTION, SIMPLE, STATISTICS, block, capture, enhanced, interface, option,
+                    section, simple, unit)
 from captures import capture as classic, header, put, record
 from model import fault
 from running import compare, difference, ended, outcome, start
@@ -68,6 +69,11 @@ FAULTS = [
       for size in (0, 12, 28, 31, 33, 77, 78, 2**31 + 1)),
     *((f"a simple packet of {size}", BEGIN, simple(SOURCE, first=size), "Length") for size in (0, 12, 15, 17, 2**32 - 3)),
     *((f"another block of {size}", BEGIN, foreign(NAMES, first=size), "Length") for size in (0, 4, 8, 11, 13, 14, 15)),
+    ("a section that has all but 4 bytes", BEGIN, block(SECTION, section()[8:20]), "Length"),
+    ("an interface that has all but 4 bytes", section(), block(INTERFACE, interface()[8:12]), "Length"),
+    ("a packet that has all but 4 bytes", BEGIN, block(ENHANCED, enhanced(b"")[8:24]), "Length"),
+    ("a simple packet that has all but 4 bytes", BEGIN, block(SIMPLE, b""), "Length"),
+    ("another block that has all but 4 bytes", BEGIN, NAMES.to_bytes(4, "little") + bytes([8, 0, 0, 0]), "Length"),
     ("a length in the other order", BEGIN, foreign(NAMES, first=12 << 24), "Cut"),
     ("a length above what is there", BEGIN, foreign(NAMES, bytes(8), first=24), "Cut"),
     ("the greatest length", BEGIN, enhanced(SOURCE, first=2**32 - 4), "Cut"),
@@ -157,6 +163,7 @@ def taken(program):
             ("code 0 stops the options", section() + interface(options=option(0) + unit(99)) + PACKET * 2),
             ("code 0 of any length", section() + interface(options=option(0, b"12345") + unit(99)) + PACKET * 2),
             ("an option past the end stops them", section() + interface(options=b"\x01\0\x40\0" + unit(99)) + PACKET * 2),
+            ("a unit past the end is none", section() + interface(options=b"\x09\0\x01\0") + PACKET * 2),
             ("the first unit counts", section() + interface(options=unit(6) + unit(99)) + PACKET * 2),
             ("a unit of two bytes is none", section() + interface(options=option(9, b"\x63\0")) + PACKET * 2)):
         yield name, compare(program, "run program=ddos", data, two)
