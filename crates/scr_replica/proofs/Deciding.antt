@@ -3,7 +3,7 @@ use Rattle.std.proofs.Common.{◌≡◌, ℕ, zero, suc, ◌+◌, ◌-◌, ◌<�
 use Rattle.std.specs.Prelude.{fold, slice_get}
 use Rattle.std.proofs.lemmas.Bool.{cases_lt}
 use Rattle.std.proofs.lemmas.Bool.Decides.{nat_tests}
-use Rattle.std.proofs.lemmas.List.{take_more, take_all, take-append-le, map-append}
+use Rattle.std.proofs.lemmas.List.{take_more, take_all, take-append-le, take-map, map-append, length-map}
 use Rattle.std.proofs.lemmas.Grind.{fold-append}
 use Rattle.std.proofs.lemmas.Option.{get_or_from_slice_get, slice_get_within}
 use Rattle.scr_base.specs.declared.row.Row.{Row}
@@ -36,15 +36,6 @@ message-at f (x ∷ items) last (suc m) it e =
       | inr end ↦ inr (let at = end.0 in omega arith, end.1)
     ]
 
-take-map : (f : Item → Message) (m : ℕ) (items : List Item) → take m (map f items) ≡ map f (take m items)
-take-map f zero items = refl
-take-map f (suc m) [] = refl
-take-map f (suc m) (x ∷ items) = ap (λ (xs : List Message). f x ∷ xs) (take-map f m items)
-
-length-map : (f : Item → Message) (items : List Item) → length (map f items) ≡ length items
-length-map f [] = refl
-length-map f (x ∷ items) = ap suc (length-map f items)
-
 is-beacon : (plan : Plan) (it : Item) (n : ℕ) → Beacon n ≡ message_of plan it → it ≡ item.Beacon n
 is-beacon plan (item.Beacon m) n e = cc
 is-beacon plan (item.Frame m) n e = absurd cc
@@ -71,7 +62,7 @@ module _ (plan : Plan) (core : ℕ) where
   front-is : (m : ℕ) → m ≤ length items → take m (lane plan core) ≡ map (message_of plan) (take m items)
   unfolding lane_so_far
   front-is m le =
-      let len = length-map (message_of plan) items in
+      let len = length-map items (message_of plan) in
       take-append-le m (map (message_of plan) items) (End (frame_count plan) ∷ []) (omega arith) ∙ take-map (message_of plan) m items
 
   decided-is : (m : ℕ) → m ≤ length items → decided plan core m ≡ decided_from plan 0 (take m items)

@@ -1,29 +1,19 @@
 -- The beacons and frames of a lane, place by place.
-use Rattle.std.proofs.Common.{◌≡◌, ℕ, zero, suc, ◌+◌, ◌-◌, ◌<◌, ◌≤◌, Bool, true, false, cond, ◌&&◌, ◌||◌, not, List, [], ◌∷◌, length, get_or, take, map, max, inl, inr, refl, sym, ap, ◌∙◌, arith, eqb, ltb}
+use Rattle.std.proofs.Common.{◌≡◌, ℕ, zero, suc, ◌+◌, ◌-◌, ◌<◌, ◌≤◌, Bool, true, false, cond, ◌||◌, not, List, [], ◌∷◌, length, get_or, take, map, max, inl, inr, refl, sym, ap, ◌∙◌, arith, eqb, ltb}
 use Rattle.std.specs.Prelude.{fold}
+use Rattle.std.specs.Cmp.Derive.{both_true}
 use Rattle.std.specs.List.{list_all, list_any, before_first, position_or_len}
 use Rattle.std.proofs.lemmas.Bool.{cases_eq}
 use Rattle.std.proofs.lemmas.Bool.Decides.{nat_tests}
 use Rattle.scr_plan.specs.Order.{Item}
 use Rattle.scr_plan.specs.Order as item
 use Rattle.scr_plan.specs.Plan.{Plan}
+use Rattle.scr_plan.proofs.Each.{first, Each-back}
 use Rattle.scr_plan.specs.Delivered.{number_of, is_frame, delivers}
 use Rattle.scr_wire.specs.Spelling as message
 use Rattle.scr_wire.specs.Lane.{message_of, decided_by}
 
 -- ---- tests of a list
-
-both : (a b : Bool) → a ≡ true → b ≡ true → (a && b) ≡ true
-both true b p q = q
-both false b p q = absurd cc
-
-first : (a b : Bool) → (a && b) ≡ true → a ≡ true
-first true b p = refl
-first false b p = absurd cc
-
-second : (a b : Bool) → (a && b) ≡ true → b ≡ true
-second true b p = p
-second false b p = absurd cc
 
 neither : (a b : Bool) → (a || b) ≡ false → (a ≡ false) × (b ≡ false)
 neither true b e = absurd cc
@@ -33,7 +23,7 @@ neither false b e = (refl, e)
 pub each-at : (test : Item → Bool) (xs : List Item) (m : ℕ) (d : Item) → m < length xs → list_all test xs ≡ true → test (get_or xs m d) ≡ true
 each-at test [] m d within all = absurd (omega arith)
 each-at test (x ∷ xs) zero d within all = first (test x) (list_all test xs) all
-each-at test (x ∷ xs) (suc m) d within all = each-at test xs m d (omega arith) (second (test x) (list_all test xs) all)
+each-at test (x ∷ xs) (suc m) d within all = each-at test xs m d (omega arith) (Each-back test (x ∷ []) xs all)
 
 module _ (p : Item → Bool) where
   before-cons : (x : Item) (xs : List Item) → p x ≡ false → before_first p (x ∷ xs) ≡ x ∷ before_first p xs
@@ -51,7 +41,7 @@ module _ (p : Item → Bool) where
   stands-ahead test (x ∷ xs) (suc m) d within none fails all =
       let parts = neither (p x) (list_any p (take m xs)) none in
       stands-ahead test xs m d (omega arith) parts.1 fails
-      (second (test x) (list_all test (before_first p xs)) (ap (list_all test) (sym (before-cons x xs parts.0)) ∙ all))
+      (Each-back test (x ∷ []) (before_first p xs) (ap (list_all test) (sym (before-cons x xs parts.0)) ∙ all))
 
   -- ahead of the first that passes stands what comes before it
   pub ahead-is : (xs : List Item) (m : ℕ) (d : Item) → m < length xs → list_any p (take m xs) ≡ false → p (get_or xs m d) ≡ true
@@ -95,7 +85,7 @@ module _ (plan : Plan) where
       let top : ℕ = max from (message.number_of (message_of plan it)) in
       let more = from-le top items in
       let same = same-number plan it in
-      both (under n it) (list_all (under n) items) (under-of n it (omega arith)) (all-under n top items less)
+      both_true (under-of n it (omega arith)) (all-under n top items less)
 
   -- and the greatest is below what all are below
   pub greatest-under : (n from : ℕ) (items : List Item) → from < n → list_all (under n) items ≡ true → greatest plan from items < n
@@ -103,7 +93,7 @@ module _ (plan : Plan) where
   greatest-under n from (it ∷ items) less all =
       let here = under-is n it (first (under n it) (list_all (under n) items) all) in
       let same = same-number plan it in
-      greatest-under n (max from (message.number_of (message_of plan it))) items (omega arith) (second (under n it) (list_all (under n) items) all)
+      greatest-under n (max from (message.number_of (message_of plan it))) items (omega arith) (Each-back (under n) (it ∷ []) items all)
 
   -- ---- what some items decide, from a number on
 
@@ -150,16 +140,16 @@ module _ (plan : Plan) where
 -- none of those below n is frame n
 pub none-is : (n : ℕ) (items : List Item) → list_all (under n) items ≡ true → list_any (is_frame n) items ≡ false
 none-is n [] all = refl
-none-is n (item.Beacon m ∷ items) all = none-is n items (second (under n (item.Beacon m)) (list_all (under n) items) all)
+none-is n (item.Beacon m ∷ items) all = none-is n items (Each-back (under n) (item.Beacon m ∷ []) items all)
 none-is n (item.Frame m ∷ items) all =
     let less = under-is n (item.Frame m) (first (under n (item.Frame m)) (list_all (under n) items) all) in
     let fails : eqb m n ≡ false = grind (arith, nat_tests) in
     ap (λ (b : Bool). b || list_any (is_frame n) items) fails
-    ∙ none-is n items (second (under n (item.Frame m)) (list_all (under n) items) all)
+    ∙ none-is n items (Each-back (under n) (item.Frame m ∷ []) items all)
 
 -- where none passes, each fails
 pub none-each : (p : Item → Bool) (xs : List Item) → list_any p xs ≡ false → list_all (λ x. not (p x)) xs ≡ true
 none-each p [] none = refl
 none-each p (x ∷ xs) none =
     let parts = neither (p x) (list_any p xs) none in
-    both (not (p x)) (list_all (λ y. not (p y)) xs) (ap not parts.0) (none-each p xs parts.1)
+    both_true (ap not parts.0) (none-each p xs parts.1)
