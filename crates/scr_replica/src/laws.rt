@@ -11,8 +11,8 @@ ghost use Rattle.scr_wire.specs.Lane.{lane};
 ghost use Rattle.scr_replica.specs.Told.{frames_taken};
 ghost use Rattle.scr_replica.specs.OneCore.{verdicts, entries, all_verdicts, undivided};
 
-/// Of its lane, late frames and second copies among it, a core takes the frames that are delivered to it, each once and in
-/// growing order.
+/// The frames of a lane whose numbers are above every number before them, which a core takes, are those that are delivered
+/// to it, each once and in growing order. The others are late frames and second copies.
 pub fn frames_of_a_lane()
     ensures { (plan : Plan) (core : ℕ) → IsPlan plan → frames_taken 0 (lane plan core) ≡ filter (delivers_to plan core) (range_with_len 1 (frame_count plan)) }
 {}
