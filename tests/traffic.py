@@ -200,3 +200,12 @@ def link(seed, frames):
     dice = random.Random(seed)
     lists = {"drop": drop_list(seed, frames), "repeat": drop_list(seed + 1, frames), "delay": delay_list(seed, frames)}
     return [f"{name}={text}" for name, text in lists.items() if dice.random() < 0.85]
+
+
+def dealt(seed):
+    """A capture, and operands that deal it over some cores and a link, with a history and a ring or their defaults."""
+    frames = 60 + seed * 37 % 200
+    words = [f"cores={1 + seed * 5 % 16}", *link(seed, frames)]
+    words += [f"history={(0, 1, 64)[seed % 4]}"] if seed % 4 < 3 else []
+    words += ["ring=1"] if seed % 5 == 0 else []
+    return capture(seed, frames), words

@@ -2,7 +2,7 @@
 from captures import arp, capture, header, ipv4, tcp, udp
 from model.reading import header as header_of, records
 from running import compare, difference, outcome
-from traffic import PAIRS, capture as random_capture, drop_list, settings
+from traffic import PAIRS, capture as random_capture, dealt, settings
 
 from .agreement import again
 from .known import ACK, FOUR, HEAVY, PASSING, RST, SOURCE, STATES, SYN, SYN_ACK, one_core, plain, timed, whole
@@ -54,14 +54,11 @@ def chains(program):
 
 
 def all_pairs(program):
-    """All sixteen pairs over random captures, with random cores, histories and drops."""
+    """All sixteen pairs over random captures, with random cores, histories and links."""
     for seed, pair in enumerate(PAIRS * 4, 7_000):
-        cores, frames = 1 + seed * 5 % 16, 60 + seed * 37 % 200
-        words = f"run program=chain {settings(seed, 'chain', pair)} cores={cores}".split()
-        words += [f"drop={drop_list(seed, frames)}"] if seed % 3 else []
-        words += [f"history={(0, 1, 64)[seed % 4]}"] if seed % 4 < 3 else []
-        words += ["ring=1"] if seed % 5 == 0 else []
-        yield f"{'+'.join(pair)}, seed {seed}", compare(program, words, random_capture(seed, frames))
+        data, words = dealt(seed)
+        words = ["run", "program=chain", *settings(seed, "chain", pair).split(), *words]
+        yield f"{'+'.join(pair)}, seed {seed}", compare(program, words, data)
     for seed, pair in enumerate(PAIRS, 7_100):
         words = f"load program=chain {settings(seed, 'chain', pair)} frames={300 + seed} cores={1 + seed % 3} start={seed}"
         yield f"load {'+'.join(pair)}", compare(program, words)

@@ -4,7 +4,7 @@ import random
 from captures import arp, capture, header, ipv4, tcp, udp, udp6
 from model import fault
 from running import compare, difference, outcome
-from traffic import capture as random_capture, drop_list, settings, tcp6
+from traffic import capture as random_capture, dealt, drop_list, settings, tcp6
 
 from .known import ACK, RST, SOURCE, SYN, SYN_ACK, one_core, plain, whole
 
@@ -116,14 +116,10 @@ def guide_tables(program):
 
 
 def random_tables(program):
-    """Random tables over random captures, with random cores, histories and drops."""
+    """Random tables over random captures, with random cores, histories and links."""
     for seed in range(8_000, 8_050):
-        cores, frames = 1 + seed * 5 % 16, 60 + seed * 37 % 200
-        words = f"run program=table {settings(seed, 'table')} cores={cores}".split()
-        words += [f"drop={drop_list(seed, frames)}"] if seed % 3 else []
-        words += [f"history={(0, 1, 64)[seed % 4]}"] if seed % 4 < 3 else []
-        words += ["ring=1"] if seed % 5 == 0 else []
-        yield f"seed {seed}", compare(program, words, random_capture(seed, frames))
+        data, words = dealt(seed)
+        yield f"seed {seed}", compare(program, ["run", "program=table", *settings(seed, "table").split(), *words], data)
     for seed in range(8_100, 8_110):
         words = f"program=table {settings(seed, 'table')}"
         yield f"plain, seed {seed}", compare(program, f"plain {words}", random_capture(seed, 200))
