@@ -16,7 +16,7 @@
 //! its own carries it, or nothing.
 //!
 //! **What is proved.** Each call answers exactly by these definitions; that [`Link::delivered`] judges by numbers what the
-//! order defines is proofs/InTime.antt. A text is read as the list that it spells, or refused by its first faulty piece, and never both. A
+//! order defines is proofs/InTime.antt. A text is read as the list that it spells, or refused by its first faulty piece. A
 //! delivered packet is kept, and a packet is lost at every core exactly where it isn't kept ([`lost_to_all`]). What a
 //! core's frames carry and what it recovers are together what is kept, and with what it skips they are all packets. On an
 //! empty link a lane goes number by number, and every frame is delivered ([`empty_link_delivers_all`]).
