@@ -15,5 +15,6 @@ pub mod Spelled
 pub mod FrameDelays
 pub mod DelaysSpelled
 pub mod Ranges
+pub mod Joining
 pub mod Marking
 pub mod OneReading

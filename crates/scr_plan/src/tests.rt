@@ -1,3 +1,5 @@
+mod fates;
+
 use crate::{
     CoreCounts, DelayCause, DelayError, Delays, DropCause, DropError, Drops, Fate, Link, RunPlan,
     carried_from, core_of, counts, kept,
