@@ -1,12 +1,14 @@
--- A text spells one drop list, or is refused with one cause at one place.
+-- A text spells one drop list, or is refused with one cause at one place; and it spells one list of delays.
 use Rattle.std.proofs.Common.{◌≡◌, ℕ, ◌<◌, List, [], ◌∷◌, get_or, Result, Ok, Err, arith, sym, ap, ◌∙◌}
 use Rattle.std.specs.Result.{IsOk}
 use Rattle.std.proofs.lemmas.List.{same_lists}
 use Rattle.scr_plan.specs.Spelling.{read_at, place_of, Spells, IsRefused}
+use Rattle.scr_plan.specs.DelaySpelling.{delay_read_at, SpellsDelays}
+use Rattle.scr_plan.specs.declared.delays.FrameDelay.{FrameDelay}
 use Rattle.scr_plan.specs.declared.drops.DropRange.{DropRange}
 use Rattle.scr_plan.specs.declared.reading.DropCause.{DropCause}
 
-Ok-same : (a b : DropRange) (x : Result DropRange DropCause) → x ≡ Ok a → x ≡ Ok b → a ≡ b
+Ok-same : {A C : Type 0} (a b : A) (x : Result A C) → x ≡ Ok a → x ≡ Ok b → a ≡ b
 Ok-same a b x is_a is_b = cc
 
 Err-same : (a b : DropCause) (x : Result DropRange DropCause) → x ≡ Err a → x ≡ Err b → a ≡ b
@@ -24,6 +26,14 @@ Spells-same (byte ∷ text) a b spells_a spells_b =
     same_lists a b (spells_a.count ∙ sym spells_b.count)
     (λ k d within.
     Ok-same (get_or a k d) (get_or b k d) (read_at (byte ∷ text) k) (spells_a.each k d within)
+    (spells_b.each k d (omega (arith, spells_a.count, spells_b.count))))
+
+pub SpellsDelays-same : (text : List ℕ) (a b : List FrameDelay) → SpellsDelays text a → SpellsDelays text b → a ≡ b
+SpellsDelays-same [] a b spells_a spells_b = spells_a ∙ sym spells_b
+SpellsDelays-same (byte ∷ text) a b spells_a spells_b =
+    same_lists a b (spells_a.count ∙ sym spells_b.count)
+    (λ k d within.
+    Ok-same (get_or a k d) (get_or b k d) (delay_read_at (byte ∷ text) k) (spells_a.each k d within)
     (spells_b.each k d (omega (arith, spells_a.count, spells_b.count))))
 
 pub Spells-not_refused : (text : List ℕ) (ranges : List DropRange) (cause : DropCause) (place : ℕ)

@@ -134,8 +134,8 @@ impl Drops {
     }
 
     /// Of the numbers from 1 to `count`, in order, whether one of the ranges has each. Ranges that overlap in the same
-    /// steps are gone through as one. So each step is gone through once at most for each of its remainders, and 256 ranges
-    /// cost fewer than 23 times the numbers, as in the steps 1 to 22 with all their remainders.
+    /// steps are gone through as one, so no number is marked twice by ranges of one step. It costs the numbers times the
+    /// steps that have as many ranges as remainders, and 256 ranges are too few for 23 such steps.
     pub fn marks(&self, alloc: Global, count: usize) -> Result<Vec<bool>, OutOfMemory>
         ensures count { IfOk result (λ marks. length marks.items ≡ count) }
         ensures marks { IfOk result (λ marks. (k : ℕ) → k < count → slice_index_or marks.items k false ≡ has_number self.now (k + 1)) }

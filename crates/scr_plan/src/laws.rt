@@ -1,11 +1,19 @@
 ghost use Rattle.std.specs.Prelude.{◌≡◌, ◌<◌, ◌≤◌, ℕ, None, true, false};
+ghost use Rattle.std.specs.Bool.{Decides};
 ghost use Rattle.std.specs.List.{flat_map, range_with_len};
 ghost use Rattle.scr_plan.specs.Link.{empty_link};
 ghost use Rattle.scr_plan.specs.Plan.{Plan, IsPlan, frame_count};
 ghost use Rattle.scr_plan.specs.Order.{order, plain_at};
 ghost use Rattle.scr_plan.specs.Delivered.{delivers};
-ghost use Rattle.scr_plan.specs.Kept.{keeps};
+ghost use Rattle.scr_plan.specs.Kept.{keeps, carries_to, IsKept, IsCarried};
 ghost use Rattle.scr_plan.specs.FinalEntry.{final_entry};
+
+/// A packet is kept exactly where some delivered frame carries it, and carried to a core exactly where some frame that is
+/// delivered to that core does.
+pub fn some_frame_carries()
+    ensures kept { (plan : Plan) (p : ℕ) → Decides (keeps plan p) (IsKept plan p) }
+    ensures carried { (plan : Plan) (core : ℕ) (p : ℕ) → Decides (carries_to plan core p) (IsCarried plan core p) }
+{}
 
 /// A packet is lost at every core exactly where no delivered frame carries it.
 pub fn lost_to_all()

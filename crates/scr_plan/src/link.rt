@@ -162,7 +162,7 @@ impl Link {
         Ok(losses)
     }
 
-    /// What becomes of the frames 1 to `count`, in order. Each list is gone through once, however many frames there are.
+    /// What becomes of the frames 1 to `count`, in order. Each list is gone through once, and costs as [`Drops::marks`] says.
     pub fn fates(&self, alloc: Global, count: usize) -> Result<Vec<Fate>, OutOfMemory>
         ensures count { IfOk result (λ fates. length fates.items ≡ count) }
         ensures fates { IfOk result (λ fates. (k : ℕ) (d : Fate) → k < count → slice_index_or fates.items k d ≡ fate_of self.now (k + 1)) }
