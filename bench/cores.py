@@ -28,9 +28,18 @@ def many_delays():
     return ",".join(f"{(piece + 1) * SIZES[-1] // (PIECES + 1)}:{(piece * 37) % 1_000 + 1}" for piece in range(PIECES))
 
 
+def one_in_two(first):
+    """Pieces each of which has every second frame from its first to the last one."""
+    return ",".join(f"{first + 2 * piece}-1000000000/2" for piece in range(PIECES))
+
+
 MANY_DROPS = one_in_ten(0)
 SETTINGS = [Setting(1), Setting(4), Setting(16), Setting(16, 64, MANY_DROPS)]
-OVER_A_LINK = Setting(16, None, MANY_DROPS, one_in_ten(5), many_delays())
+LINK_CORES = 16
+OVER_A_LINK = {
+    "pieces apart": Setting(LINK_CORES, None, MANY_DROPS, one_in_ten(5), many_delays()),
+    "pieces that overlap": Setting(LINK_CORES, None, one_in_two(2), one_in_two(1), many_delays()),
+}
 
 
 def words_of(setting):
@@ -75,18 +84,22 @@ def rows_of(program, setting, paths):
 
 
 def over_a_link(program, folder):
-    """The table of a run over a link with three long lists, and of the same run without a link, in turns."""
+    """The table of runs over links with three long lists, and of the same run without a link, in turns."""
     frames, path = SIZES[-1], f"{folder}/linked"
-    if free_memory() * 1024 < FREE_TIMES * memory_of(OVER_A_LINK, frames):
+    if free_memory() * 1024 < FREE_TIMES * memory_of(Setting(LINK_CORES), frames):
         return [["no room"]]
     write_capture(path, frames)
-    calls = [[program, *words_of(setting)] for setting in (Setting(OVER_A_LINK.cores), OVER_A_LINK)]
-    rows = [["", "ns each without a link", "ns each over the link", "ratio"]]
-    for title, (without, over) in zip(("time", "processor"), best_times(calls, path)):
-        each = [f"{1e9 * seconds / frames:,.0f}" for seconds in (without, over)]
-        rows.append([title, *each, f"{over / without:.2f}" + (" above" if over > MOST_LINK * without else "")])
+    calls = [[program, *words_of(setting)] for setting in (Setting(LINK_CORES), *OVER_A_LINK.values())]
+    rows = [["", "", "ns each without a link", "ns each over the link", "ratio"]]
+    for title, (without, *over) in zip(("time", "processor"), best_times(calls, path)):
+        rows += [compared(link, title, without, seconds, frames) for link, seconds in zip(OVER_A_LINK, over)]
     os.remove(path)
     return rows
+
+
+def compared(link, title, without, over, frames):
+    each = [f"{1e9 * seconds / frames:,.0f}" for seconds in (without, over)]
+    return [link, title, *each, f"{over / without:.2f}" + (" above" if over > MOST_LINK * without else "")]
 
 
 def megabytes(count):

@@ -1,4 +1,4 @@
-use Rattle.std.proofs.Common.{◌≡◌, ◌+◌, ◌||◌, true, max, ap, ◌∙◌, arith}
+use Rattle.std.proofs.Common.{◌≡◌, true, max, ap, ◌∙◌, arith}
 use Rattle.std.proofs.lemmas.Bool.Decides.{nat_tests}
 use Rattle.scr_plan.specs.Drops.{range_has}
 use Rattle.scr_plan.proofs.Joining.{joined, up_to}
