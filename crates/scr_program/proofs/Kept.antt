@@ -53,19 +53,21 @@ module _ {K V : Type 0} (same : K → K → Bool) where
     | inr roomy ↦ ap (λ (es : List (K × Option V)). option_flatten (lookup (same key) es)) roomy.entries ∙ look-roomy one key roomy.key (known cache.entries) roomy.absent
   ]
 
+  -- the key at the front has its value
+  pub found-front : ((a b : K) → same a b ≡ true → a ≡ b) → (key : K) (entries : List (K × Option V)) (front : K × Option V) → slice_get entries 0 ≡ Some front → same front.0 key ≡ true → lookup (same key) entries ≡ Some front.1
+  found-front one key [] front stands same_key = cc
+  found-front one key (pair ∷ pairs) front stands same_key =
+      let is : pair ≡ front = (let some = stands in cc) in
+      let e : front.0 ≡ key = one front.0 key same_key in
+      let self : same front.0 front.0 ≡ true = subst (λ (k : K). same front.0 k ≡ true) (sym e) same_key in
+      let passes : same key front.0 ≡ true = subst (λ (k : K). same k front.0 ≡ true) e self in
+      rw (is, passes) refl
+
   -- so does a look at the front, where the key is
   pub look-front : ((a b : K) → same a b ≡ true → a ≡ b) → (key : K) (flows : ℕ) (cache : LruCache K (Option V)) (ready : Option K) → IsKept same flows cache ready → (front : K × Option V) → slice_get cache.entries 0 ≡ Some front → same front.0 key ≡ true → front.1 ≡ lookup (same key) (known cache.entries)
-  look-front one key flows cache ready kept front stands same_key = at cache.entries refl
-    where
-      at : (pairs : List (K × Option V)) → cache.entries ≡ pairs → front.1 ≡ lookup (same key) (known cache.entries)
-      at [] h = let none = rw h at stands in cc
-      at (pair ∷ pairs) h =
-          let is : pair ≡ front = (let some = rw h at stands in cc) in
-          let e : front.0 ≡ key = one front.0 key same_key in
-          let self : same front.0 front.0 ≡ true = subst (λ (k : K). same front.0 k ≡ true) (sym e) same_key in
-          let passes : same key front.0 ≡ true = subst (λ (k : K). same k front.0 ≡ true) e self in
-          let found : lookup (same key) cache.entries ≡ Some front.1 = rw (h, is, passes) refl in
-          sym (ap (λ (o : Option (Option V)). option_flatten o) found) ∙ look-kept one key flows cache ready kept
+  look-front one key flows cache ready kept front stands same_key =
+      let found = found-front one key cache.entries front stands same_key in
+      sym (ap (λ (o : Option (Option V)). option_flatten o) found) ∙ look-kept one key flows cache ready kept
 
   -- the keys of the flows are distinct where those in the cache are
   pub distinct-kept : (flows : ℕ) (cache : LruCache K (Option V)) (ready : Option K) → IsKept same flows cache ready → IsDistinct same (keys_of cache.entries) → IsDistinct same (keys_of (known cache.entries))
@@ -288,3 +290,9 @@ module _ {K V : Type 0} {same : K → K → Bool} (laws : IsEquivalence same) (o
             at : (r : Result T E) → IfOk r IsPut → IfOk r (IsSet (known after.entries))
             at (Ok x) is = (is.0, old-known is.0 x is.1, set-known is.0 after (within is.0 is.2))
             at (Err e) is = tt
+
+-- where no room was made, a key that is there may be made ready
+pub kept-readied : {K V : Type 0} {same : K → K → Bool} (laws : IsEquivalence same) (one : (a b : K) → same a b ≡ true → a ≡ b) (flows : ℕ) (cache : LruCache K (Option V)) (ready : Option K) (kept : IsKept same flows cache ready) (key : K) → cache.cap ≡ flows → IsSome (lookup (same key) cache.entries) → IsKept same flows cache (Some key)
+kept-readied laws one flows cache ready kept key cap there =
+    let unready = kept-forgotten laws one flows cache ready kept key cap in
+    kept-there laws one flows cache None unready key (inl refl) there

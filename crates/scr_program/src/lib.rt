@@ -25,6 +25,7 @@
 #![tactic(auto)]
 
 mod fields;
+mod hashing;
 mod key;
 mod keyed;
 mod kinds;
@@ -36,6 +37,7 @@ mod tests;
 mod verdicts;
 
 pub use fields::{Address, Fields, ZERO_ROW, fields_of, pack, unpack};
+pub use hashing::{FIRST, mixed};
 pub use key::{FiveTuple, FlowKey};
 pub use keyed::Keyed;
 pub use kinds::{has_ports, is_packet, is_tcp, is_udp};

@@ -1,4 +1,4 @@
-ghost use Rattle.std.specs.Prelude.{◌≡◌, ◌≤◌, ◌⊎◌, ◌+◌, ◌^◌, ◌<◌, ◌∷◌, [], Option, None, length, Some, true, IfOk, OnOk, OnErr, IsOk, IsSome};
+ghost use Rattle.std.specs.Prelude.{◌≡◌, ◌≤◌, ◌⊎◌, ◌+◌, ◌^◌, ◌<◌, ◌∷◌, [], Option, None, length, Some, true, IfOk, OnOk, OnErr, IsOk, IsSome, is_some};
 ghost use Rattle.std.specs.List.{IsDistinct};
 ghost use Rattle.std.specs.Option.{option_flatten};
 ghost use Rattle.std.specs.Map.{lookup, keys_of};
@@ -6,12 +6,16 @@ ghost use Rattle.std.specs.NonZero.{non_zero_usize_get};
 ghost use Rattle.lru.specs.LruCache.{lru_cache, put_entries};
 ghost use Rattle.scr_program.specs.FlowList.{set_key, entered_list};
 
+use crate::hashing::KeyHasher;
 use crate::key::FlowKey;
 use lru::LruCache;
 use scr_base::OutOfMemory;
 use std::alloc::Global;
 use std::marker::Model;
 use std::num::NonZeroUsize;
+
+// The cache under a flow table.
+type Cache<K, V> = LruCache<K, Option<V>, KeyHasher>;
 
 /// The most flows that a table may hold.
 pub const MOST_FLOWS: u32 = 65_536;
@@ -23,7 +27,7 @@ pub const MOST_FLOWS: u32 = 65_536;
 #[derive(Drop)]
 pub struct FlowTable<K: FlowKey, V: Copy + Drop> {
     // A ready key that is no flow stands in front without an entry, and then the cache may hold one pair more.
-    cache: LruCache<K, Option<V>>,
+    cache: Cache<K, V>,
     flows: NonZeroUsize,
     ready: Option<K>,
 }
@@ -51,7 +55,7 @@ impl<K: FlowKey, V: Copy + Drop> FlowTable<K, V> {
     {
         let flows = NonZeroUsize::new(flows as usize).unwrap();
         Ok(FlowTable {
-            cache: LruCache::new(alloc, flows)?,
+            cache: LruCache::with_hasher(alloc, flows, KeyHasher::NEW)?,
             flows,
             ready: None,
         })
@@ -188,11 +192,28 @@ impl<K: FlowKey, V: Copy + Drop> FlowTable<K, V> {
     }
 
     /// Makes a key ready, in place of the one that was: takes the memory that its `set` may need. The flows and their
-    /// order stay as they are, also in a full table.
+    /// order stay as they are, also in a full table. A key that is a flow's needs none.
     ///
     /// # Errors
     /// No key is ready then. A key that is a flow's, or is ready, meets no error.
+    #[inline(always)]
     pub fn prepare(&mut self, key: K) -> Result<(), OutOfMemory>
+        ensures ok { OnOk result (self.new ≡ record self.old { ready = Some key }) }
+        ensures err { OnErr result (self.new ≡ record self.old { ready = None }) }
+        ensures known_succeeds { IsSome (lookup (K.eq key) self.old.list) → IsOk result }
+        ensures ready_succeeds { self.old.ready ≡ Some key → IsOk result }
+    {
+        if self.cache.cap() == self.flows && holds(&self.cache, &key) {
+            self.ready = Some(key);
+            return Ok(());
+        }
+        self.prepare_with_room(key)
+    }
+
+    // The same where room is to be made for the key, or was made for one.
+    #[cold]
+    #[inline(never)]
+    fn prepare_with_room(&mut self, key: K) -> Result<(), OutOfMemory>
         ensures ok { OnOk result (self.new ≡ record self.old { ready = Some key }) }
         ensures err { OnErr result (self.new ≡ record self.old { ready = None }) }
         ensures known_succeeds { IsSome (lookup (K.eq key) self.old.list) → IsOk result }
@@ -231,10 +252,21 @@ impl<K: FlowKey, V: Copy + Drop> FlowTable<K, V> {
     }
 }
 
+// Whether a key is there. The newest one is asked first, as in a look-up.
+#[inline(always)]
+fn holds<K: FlowKey, V: Copy + Drop>(cache: &Cache<K, V>, key: &K) -> bool
+    ensures { result ≡ is_some (lookup (K.eq key.now) cache.now.entries) }
+{
+    match cache.peek_mru() {
+        Some((newest, _)) if newest == key => true,
+        _ => cache.contains(key),
+    }
+}
+
 // Puts a pair in front, with the entry that `next` makes of the one of its key.
 #[inline(always)]
 fn change<K: FlowKey, V: Copy + Drop, T: Drop, F: FnOnce(Option<V>) -> (V, T)>(
-    cache: &mut LruCache<K, Option<V>>,
+    cache: &mut Cache<K, V>,
     key: &K,
     next: F,
 ) -> Result<T, OutOfMemory>
@@ -257,7 +289,7 @@ fn change<K: FlowKey, V: Copy + Drop, T: Drop, F: FnOnce(Option<V>) -> (V, T)>(
 // Puts a pair in front. It stands apart, as a step mostly finds its key.
 #[inline(never)]
 fn put<K: FlowKey, V: Copy + Drop>(
-    cache: &mut LruCache<K, Option<V>>,
+    cache: &mut Cache<K, V>,
     key: K,
     entry: V,
 ) -> Result<(), OutOfMemory>
@@ -271,7 +303,7 @@ fn put<K: FlowKey, V: Copy + Drop>(
 
 // Puts a key that isn't there in front of all pairs, without an entry and with room for one pair more.
 fn make_room<K: FlowKey, V: Copy + Drop>(
-    cache: &mut LruCache<K, Option<V>>,
+    cache: &mut Cache<K, V>,
     key: K,
 ) -> Result<(), OutOfMemory>
     requires fits { length cache.old.entries ≤ cache.old.cap }

@@ -6,7 +6,7 @@ use Rattle.std.specs.NonZero.{non_zero_usize_get}
 use Rattle.scr_program.specs.FlowTable.{Table, known}
 use Rattle.scr_program.specs.Kept.{IsKept}
 use Rattle.scr_program.proofs.Kept.{has-known, has-ready, kept-made}
-use Rattle.scr_program.proofs.table.FlowTable.prepare.Goals as goal
+use Rattle.scr_program.proofs.table.FlowTable.prepare_with_room.Goals as goal
 
 pub invariant_of-self : goal.invariant_of-self
 invariant_of-self g c =
