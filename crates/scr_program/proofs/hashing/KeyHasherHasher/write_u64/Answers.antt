@@ -1,5 +1,5 @@
 -- The bytes of a number are read back as it.
-use Rattle.std.proofs.Common.{◌≡◌, ℕ, ap, sym}
+use Rattle.std.proofs.Common.{ℕ, ap, sym}
 use Rattle.std.proofs.lemmas.Nat.{from_le_bytes-to_le_bytes_8}
 use Rattle.std.specs.Hash.{le_bytes}
 use Rattle.scr_program.specs.declared.hashing.KeyHasher.{KeyHasher}
