@@ -1,13 +1,11 @@
-ghost use Rattle.std.specs.Prelude.{◌≡◌, ◌+◌, ◌*◌, ◌%◌, ◌^◌};
+ghost use Rattle.std.specs.Prelude.{◌≡◌, ◌++◌, ◌+◌, ◌*◌, ◌%◌, ◌^◌};
 ghost use Rattle.std.proofs.Common.{rules};
 ghost use Rattle.std.specs.Cmp.Rules.{hashing};
 ghost use Rattle.std.specs.Hash as fed;
-ghost use Rattle.scr_program.specs.Hashing.{mixed};
-ghost use Rattle.scr_program.specs.declared.hashing.TheConstants.{FIRST};
 ghost use Rattle.scr_conn.specs.Endpoints.{source_of, destination_of, sender_of, connection_of};
 ghost use Rattle.scr_conn.specs.Same.{connection_is_one};
 
-use scr_program::{Address, FIRST, Fields, FlowKey, mixed};
+use scr_program::{Address, Fields, FlowKey};
 use std::hash::{Hash, Hasher};
 
 /// One end of a connection. Endpoints are ordered by family, then by the address's number, then by port.
@@ -31,18 +29,21 @@ pub struct Connection {
     pub high: Endpoint,
 }
 
-// Hashing is much of a look-up, so two numbers are mixed: the low address, and the high one with the ports in its upper
-// half. Over IPv6 that adds the two, and few keys hash alike.
+// Hashing is most of a look-up, so it is two writes: the low address, and the high one with the ports in its upper half.
+// Over IPv6 that adds the two, and few keys hash alike.
 impl Hash for Connection {
-    ghost hash_input = { λ key. fed.u64 (mixed (mixed FIRST key.low.address.value) ((key.high.address.value + (key.low.port * 2 ^ 16 + key.high.port) * 2 ^ 64) % 2 ^ 128)) };
+    ghost hash_input = { λ key. fed.u128 key.low.address.value ++ fed.u128 ((key.high.address.value + (key.low.port * 2 ^ 16 + key.high.port) * 2 ^ 64) % 2 ^ 128) };
 
     ghost respects_eq = { Prim.search (hashing, rules) };
 
-    #[inline(always)]
     fn hash<H: Hasher>(&self, state: &mut H) {
         let ports = u128::from(ports_joined(self.low.port, self.high.port));
-        let behind = self.high.address.value.wrapping_add(ports * (1 << 64));
-        state.write_u64(mixed(mixed(FIRST, self.low.address.value), behind));
+        self.low.address.hash(state);
+        self.high
+            .address
+            .value
+            .wrapping_add(ports * (1 << 64))
+            .hash(state);
     }
 }
 

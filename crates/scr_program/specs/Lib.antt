@@ -1,7 +1,6 @@
 pub mod Folds
 pub mod FlowList
 pub mod FlowTable
-pub mod Hashing
 pub mod Kept
 pub mod Keyed
 pub mod Keys

@@ -2,10 +2,7 @@ ghost use Rattle.std.specs.Prelude.{◌≡◌, ◌<◌, ◌+◌, ◌*◌, ◌/�
 ghost use Rattle.std.proofs.Common.{rules};
 ghost use Rattle.std.specs.Cmp.Rules.{hashing};
 ghost use Rattle.std.specs.Hash as fed;
-ghost use Rattle.scr_program.specs.Hashing.{mixed};
-ghost use Rattle.scr_program.specs.declared.hashing.TheConstants.{FIRST};
 
-use crate::hashing::{FIRST, mixed};
 use scr_base::Row;
 use scr_frame::{Kind, Parsed};
 use std::hash::{Hash, Hasher};
@@ -19,16 +16,15 @@ pub struct Address {
     pub value: u128,
 }
 
-// The value alone: hashing is much of a look-up. The same number in two families hashes alike, which is rare, and `==`
-// tells the two apart.
+// The value alone, in one write: hashing is most of a look-up. The same number in two families hashes alike, which is
+// rare, and `==` tells the two apart.
 impl Hash for Address {
-    ghost hash_input = { λ address. fed.u64 (mixed FIRST address.value) };
+    ghost hash_input = { λ address. fed.u128 address.value };
 
     ghost respects_eq = { Prim.search (hashing, rules) };
 
-    #[inline(always)]
     fn hash<H: Hasher>(&self, state: &mut H) {
-        state.write_u64(mixed(FIRST, self.value));
+        self.value.hash(state);
     }
 }
 
@@ -169,14 +165,14 @@ pub fn unpack(row: &Row) -> Fields
 }
 
 // The high 64 bits of an address.
-pub(crate) fn high(value: u128) -> u64
+fn high(value: u128) -> u64
     ensures { result ≡ value / 2 ^ 64 }
 {
     (value / (1 << 64)) as u64
 }
 
 // The low 64 bits of an address.
-pub(crate) fn low(value: u128) -> u64
+fn low(value: u128) -> u64
     ensures { result ≡ value % 2 ^ 64 }
 {
     (value % (1 << 64)) as u64

@@ -1,14 +1,11 @@
-ghost use Rattle.std.specs.Prelude.{◌≡◌, true, ◌+◌, ◌*◌, ◌%◌, ◌^◌};
+ghost use Rattle.std.specs.Prelude.{◌≡◌, true, ◌++◌, ◌+◌, ◌*◌, ◌%◌, ◌^◌};
 ghost use Rattle.std.proofs.Common.{rules};
 ghost use Rattle.std.specs.Cmp.Rules.{hashing};
 ghost use Rattle.std.specs.Hash as fed;
-ghost use Rattle.scr_program.specs.Hashing.{mixed};
-ghost use Rattle.scr_program.specs.declared.hashing.TheConstants.{FIRST};
 ghost use Rattle.scr_program.specs.Keys.{five_tuple_of};
 ghost use Rattle.scr_program.specs.Same.{address_is_one, tuple_is_one};
 
 use crate::fields::{Address, Fields};
-use crate::hashing::{FIRST, mixed};
 use std::hash::{Hash, Hasher};
 
 /// A key of a flow table. Equal keys are one key.
@@ -46,20 +43,22 @@ impl FiveTuple {
     }
 }
 
-// Hashing is much of a look-up, so two numbers are mixed: the source, and the destination with the rest in its upper
-// half. Over IPv6 that adds the two, and few keys hash alike.
+// Hashing is most of a look-up, so it is two writes: the source, and the destination with the rest in its upper half.
+// Over IPv6 that adds the two, and few keys hash alike.
 impl Hash for FiveTuple {
-    ghost hash_input = { λ key. fed.u64 (mixed (mixed FIRST key.source.value) ((key.destination.value + (key.source_port * 2 ^ 32 + key.destination_port * 2 ^ 16 + key.protocol) * 2 ^ 64) % 2 ^ 128)) };
+    ghost hash_input = { λ key. fed.u128 key.source.value ++ fed.u128 ((key.destination.value + (key.source_port * 2 ^ 32 + key.destination_port * 2 ^ 16 + key.protocol) * 2 ^ 64) % 2 ^ 128) };
 
     ghost respects_eq = { Prim.search (hashing, rules) };
 
-    #[inline(always)]
     fn hash<H: Hasher>(&self, state: &mut H) {
         let rest = u128::from(self.source_port) * (1 << 32)
             + u128::from(self.destination_port) * (1 << 16)
             + u128::from(self.protocol);
-        let behind = self.destination.value.wrapping_add(rest * (1 << 64));
-        state.write_u64(mixed(mixed(FIRST, self.source.value), behind));
+        self.source.hash(state);
+        self.destination
+            .value
+            .wrapping_add(rest * (1 << 64))
+            .hash(state);
     }
 }
 

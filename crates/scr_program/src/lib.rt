@@ -25,7 +25,6 @@
 #![tactic(auto)]
 
 mod fields;
-mod hashing;
 mod key;
 mod keyed;
 mod kinds;
@@ -37,7 +36,6 @@ mod tests;
 mod verdicts;
 
 pub use fields::{Address, Fields, ZERO_ROW, fields_of, pack, unpack};
-pub use hashing::{FIRST, mixed};
 pub use key::{FiveTuple, FlowKey};
 pub use keyed::Keyed;
 pub use kinds::{has_ports, is_packet, is_tcp, is_udp};

@@ -6,16 +6,12 @@ ghost use Rattle.std.specs.NonZero.{non_zero_usize_get};
 ghost use Rattle.lru.specs.LruCache.{lru_cache, put_entries};
 ghost use Rattle.scr_program.specs.FlowList.{set_key, entered_list};
 
-use crate::hashing::KeyHasher;
 use crate::key::FlowKey;
 use lru::LruCache;
 use scr_base::OutOfMemory;
 use std::alloc::Global;
 use std::marker::Model;
 use std::num::NonZeroUsize;
-
-// The cache under a flow table.
-type Cache<K, V> = LruCache<K, Option<V>, KeyHasher>;
 
 /// The most flows that a table may hold.
 pub const MOST_FLOWS: u32 = 65_536;
@@ -27,7 +23,7 @@ pub const MOST_FLOWS: u32 = 65_536;
 #[derive(Drop)]
 pub struct FlowTable<K: FlowKey, V: Copy + Drop> {
     // From the first ready key on that was no flow the cache may hold one pair more than there may be flows.
-    cache: Cache<K, V>,
+    cache: LruCache<K, Option<V>>,
     flows: NonZeroUsize,
     ready: Option<K>,
     // Whether the ready key is no flow, and stands in front without an entry.
@@ -57,7 +53,7 @@ impl<K: FlowKey, V: Copy + Drop> FlowTable<K, V> {
     {
         let flows = NonZeroUsize::new(flows as usize).unwrap();
         Ok(FlowTable {
-            cache: LruCache::with_hasher(alloc, flows, KeyHasher::NEW)?,
+            cache: LruCache::new(alloc, flows)?,
             flows,
             ready: None,
             is_roomy: false,
@@ -261,7 +257,7 @@ impl<K: FlowKey, V: Copy + Drop> FlowTable<K, V> {
 
 // Whether a key is there. The newest one is asked first, as in a look-up.
 #[inline(always)]
-fn holds<K: FlowKey, V: Copy + Drop>(cache: &Cache<K, V>, key: &K) -> bool
+fn holds<K: FlowKey, V: Copy + Drop>(cache: &LruCache<K, Option<V>>, key: &K) -> bool
     ensures { result ≡ is_some (lookup (K.eq key.now) cache.now.entries) }
 {
     match cache.peek_mru() {
@@ -273,7 +269,7 @@ fn holds<K: FlowKey, V: Copy + Drop>(cache: &Cache<K, V>, key: &K) -> bool
 // Puts a pair in front, with the entry that `next` makes of the one of its key.
 #[inline(always)]
 fn change<K: FlowKey, V: Copy + Drop, T: Drop, F: FnOnce(Option<V>) -> (V, T)>(
-    cache: &mut Cache<K, V>,
+    cache: &mut LruCache<K, Option<V>>,
     key: &K,
     next: F,
 ) -> Result<T, OutOfMemory>
@@ -296,7 +292,7 @@ fn change<K: FlowKey, V: Copy + Drop, T: Drop, F: FnOnce(Option<V>) -> (V, T)>(
 // Puts a pair in front. It stands apart, as a step mostly finds its key.
 #[inline(never)]
 fn put<K: FlowKey, V: Copy + Drop>(
-    cache: &mut Cache<K, V>,
+    cache: &mut LruCache<K, Option<V>>,
     key: K,
     entry: V,
 ) -> Result<(), OutOfMemory>
@@ -310,7 +306,7 @@ fn put<K: FlowKey, V: Copy + Drop>(
 
 // Drops the last pair where there is one more than the flows may be.
 #[inline(always)]
-fn truncate<K: FlowKey, V: Copy + Drop>(cache: &mut Cache<K, V>, flows: NonZeroUsize)
+fn truncate<K: FlowKey, V: Copy + Drop>(cache: &mut LruCache<K, Option<V>>, flows: NonZeroUsize)
     requires { length cache.old.entries ≤ non_zero_usize_get flows + 1 }
     ensures { cache.new ≡ lru_cache (take (non_zero_usize_get flows) cache.old.entries) cache.old.cap }
 {
@@ -321,7 +317,7 @@ fn truncate<K: FlowKey, V: Copy + Drop>(cache: &mut Cache<K, V>, flows: NonZeroU
 
 // Puts a key that isn't there in front of all pairs, without an entry and with room for it beside the flows.
 fn make_room<K: FlowKey, V: Copy + Drop>(
-    cache: &mut Cache<K, V>,
+    cache: &mut LruCache<K, Option<V>>,
     flows: NonZeroUsize,
     key: K,
 ) -> Result<(), OutOfMemory>

@@ -1,5 +1,5 @@
 -- The key is one of the cache's, or was put in front of them.
-use Rattle.std.proofs.Common.{rules, ◌≡◌, ◌∙◌, ◌⊎◌, Bool, false, sym, ap, None, Some}
+use Rattle.std.proofs.Common.{◌≡◌, ◌∙◌, ◌⊎◌, Bool, sym, ap, None, Some}
 use Rattle.std.specs.Bool.{then_some}
 use Rattle.std.specs.Map.{lookup}
 use Rattle.std.specs.Result.{is_ok}
