@@ -1,5 +1,5 @@
 -- What the calls of a flow table leave in its cache.
-use Rattle.std.proofs.Common.{◌≡◌, ℕ, zero, suc, ◌+◌, ◌-◌, ◌<◌, ◌≤◌, ◌⊎◌, inl, inr, Bool, true, false, List, [], ◌∷◌, length, slice_get, take, Option, Some, None, IsSome, IfSome, Result, Ok, Err, IsOk, IfOk, OnOk, OnErr, refl, sym, ap, subst, ◌∙◌, arith}
+use Rattle.std.proofs.Common.{◌≡◌, ℕ, zero, suc, ◌+◌, ◌-◌, ◌<◌, ◌≤◌, ◌⊎◌, inl, inr, Bool, true, false, List, [], ◌∷◌, length, slice_get, take, drop, Option, Some, None, IsSome, is_some, IfSome, Result, Ok, Err, OnOk, OnErr, refl, sym, ap, subst, ◌∙◌, arith}
 use Rattle.std.specs.Cmp.{IsEquivalence}
 use Rattle.std.specs.Result.{is_ok}
 use Rattle.std.specs.Option.{option_map, option_flatten}
@@ -47,28 +47,30 @@ module _ {K V : Type 0} (same : K → K → Bool) where
   ]) refl
 
   -- a look-up finds the entry of a flow, and none for a ready key that isn't there
-  pub look-kept : ((a b : K) → same a b ≡ true → a ≡ b) → (key : K) (flows : ℕ) (cache : LruCache K (Option V)) (ready : Option K) → IsKept same flows cache ready → option_flatten (lookup (same key) cache.entries) ≡ lookup (same key) (known cache.entries)
+  pub look-kept : ((a b : K) → same a b ≡ true → a ≡ b) → (key : K) (flows : ℕ) (cache : LruCache K (Option V)) (ready : Option K) {roomy : Bool} → IsKept same flows cache ready roomy → option_flatten (lookup (same key) cache.entries) ≡ lookup (same key) (known cache.entries)
   look-kept one key flows cache ready kept = elim kept.form [
     | inl plain ↦ ap (λ (es : List (K × Option V)). option_flatten (lookup (same key) es)) plain.entries ∙ look-plain key (known cache.entries)
     | inr roomy ↦ ap (λ (es : List (K × Option V)). option_flatten (lookup (same key) es)) roomy.entries ∙ look-roomy one key roomy.key (known cache.entries) roomy.absent
   ]
 
+  -- the key at the front has its value
+  pub found-front : ((a b : K) → same a b ≡ true → a ≡ b) → (key : K) (entries : List (K × Option V)) (front : K × Option V) → slice_get entries 0 ≡ Some front → same front.0 key ≡ true → lookup (same key) entries ≡ Some front.1
+  found-front one key [] front stands same_key = cc
+  found-front one key (pair ∷ pairs) front stands same_key =
+      let is : pair ≡ front = (let some = stands in cc) in
+      let e : front.0 ≡ key = one front.0 key same_key in
+      let self : same front.0 front.0 ≡ true = subst (λ (k : K). same front.0 k ≡ true) (sym e) same_key in
+      let passes : same key front.0 ≡ true = subst (λ (k : K). same k front.0 ≡ true) e self in
+      rw (is, passes) refl
+
   -- so does a look at the front, where the key is
-  pub look-front : ((a b : K) → same a b ≡ true → a ≡ b) → (key : K) (flows : ℕ) (cache : LruCache K (Option V)) (ready : Option K) → IsKept same flows cache ready → (front : K × Option V) → slice_get cache.entries 0 ≡ Some front → same front.0 key ≡ true → front.1 ≡ lookup (same key) (known cache.entries)
-  look-front one key flows cache ready kept front stands same_key = at cache.entries refl
-    where
-      at : (pairs : List (K × Option V)) → cache.entries ≡ pairs → front.1 ≡ lookup (same key) (known cache.entries)
-      at [] h = let none = rw h at stands in cc
-      at (pair ∷ pairs) h =
-          let is : pair ≡ front = (let some = rw h at stands in cc) in
-          let e : front.0 ≡ key = one front.0 key same_key in
-          let self : same front.0 front.0 ≡ true = subst (λ (k : K). same front.0 k ≡ true) (sym e) same_key in
-          let passes : same key front.0 ≡ true = subst (λ (k : K). same k front.0 ≡ true) e self in
-          let found : lookup (same key) cache.entries ≡ Some front.1 = rw (h, is, passes) refl in
-          sym (ap (λ (o : Option (Option V)). option_flatten o) found) ∙ look-kept one key flows cache ready kept
+  pub look-front : ((a b : K) → same a b ≡ true → a ≡ b) → (key : K) (flows : ℕ) (cache : LruCache K (Option V)) (ready : Option K) {roomy : Bool} → IsKept same flows cache ready roomy → (front : K × Option V) → slice_get cache.entries 0 ≡ Some front → same front.0 key ≡ true → front.1 ≡ lookup (same key) (known cache.entries)
+  look-front one key flows cache ready kept front stands same_key =
+      let found = found-front one key cache.entries front stands same_key in
+      sym (ap (λ (o : Option (Option V)). option_flatten o) found) ∙ look-kept one key flows cache ready kept
 
   -- the keys of the flows are distinct where those in the cache are
-  pub distinct-kept : (flows : ℕ) (cache : LruCache K (Option V)) (ready : Option K) → IsKept same flows cache ready → IsDistinct same (keys_of cache.entries) → IsDistinct same (keys_of (known cache.entries))
+  pub distinct-kept : (flows : ℕ) (cache : LruCache K (Option V)) (ready : Option K) {roomy : Bool} → IsKept same flows cache ready roomy → IsDistinct same (keys_of cache.entries) → IsDistinct same (keys_of (known cache.entries))
   distinct-kept flows cache ready kept distinct = elim kept.form [
     | inl plain ↦ subst (IsDistinct same) (ap (λ (es : List (K × Option V)). keys_of es) plain.entries ∙ keys_of-held (known cache.entries)) distinct
     | inr roomy ↦
@@ -77,28 +79,55 @@ module _ {K V : Type 0} (same : K → K → Bool) where
   ]
 
   module _ (one : (a b : K) → same a b ≡ true → a ≡ b) (key : K) (entry : V) where
-    set-found : (flows : ℕ) (list : List (K × V)) (pair : K × V) → lookup_entry (same key) list ≡ Some pair → take flows (put_entries same (lru_cache (held list) flows) key (Some entry)) ≡ held (set_key same flows list key entry)
-    set-found flows list pair found =
+    set-found : (flows cap : ℕ) (list : List (K × V)) (pair : K × V) → lookup_entry (same key) list ≡ Some pair → take flows (put_entries same (lru_cache (held list) cap) key (Some entry)) ≡ held (set_key same flows list key entry)
+    set-found flows cap list pair found =
         let was : pair.0 ≡ key = sym (one key pair.0 (Contains-lookup_entry (same key) list pair found).1) in
         let there : lookup_entry (same key) (held list) ≡ Some (held_pair pair) = lookup_entry-held (same key) list ∙ ap (λ (o : Option (K × V)). option_map held_pair o) found in
         let rest : remove_entry (same key) (held list) ≡ held (remove_entry (same key) list) = remove_entry-held (same key) list in
         rw (there, was, rest) (take-held flows ((key, entry) ∷ remove_entry (same key) list))
 
-    set-new : (flows : ℕ) (list : List (K × V)) → lookup (same key) list ≡ None → 0 < flows → take flows (put_entries same (lru_cache (held list) flows) key (Some entry)) ≡ held (set_key same flows list key entry)
-    set-new zero list absent h = absurd (omega arith)
-    set-new (suc rest) list absent h =
+    set-new : (flows cap : ℕ) (list : List (K × V)) → lookup (same key) list ≡ None → 0 < flows → flows ≤ cap → take flows (put_entries same (lru_cache (held list) cap) key (Some entry)) ≡ held (set_key same flows list key entry)
+    set-new zero cap list absent h wide = absurd (omega arith)
+    set-new (suc rest) cap list absent h wide =
         let gone : remove_entry (same key) list ≡ list = remove_entry-absent (same key) list absent in
         let none : lookup_entry (same key) (held list) ≡ None = lookup_entry-held (same key) list ∙ ap (λ (o : Option (K × V)). option_map held_pair o) (lookup_entry-absent (same key) list absent) in
-        let less : suc rest - 1 ≡ rest = omega arith in
-        let twice : take rest (take rest (held list)) ≡ take rest (held list) = take-take rest rest (held list) (omega arith) in
-        rw (none, less, gone) (ap (λ (pairs : List (K × Option V)). (key, Some entry) ∷ pairs) (twice ∙ take-held rest list))
+        let twice : take rest (take (cap - 1) (held list)) ≡ take rest (held list) = take-take rest (cap - 1) (held list) (omega arith) in
+        rw (none, gone) (ap (λ (pairs : List (K × Option V)). (key, Some entry) ∷ pairs) (twice ∙ take-held rest list))
 
     set-ready : (flows : ℕ) (list : List (K × V)) → same key key ≡ true → lookup (same key) list ≡ None → take flows (put_entries same (lru_cache ((key, None) ∷ held list) (flows + 1)) key (Some entry)) ≡ held (set_key same flows list key entry)
     set-ready flows list self absent =
         let gone : remove_entry (same key) list ≡ list = remove_entry-absent (same key) list absent in
         rw (self, gone) (take-held flows ((key, entry) ∷ list))
 
-module _ {K V : Type 0} {same : K → K → Bool} (laws : IsEquivalence same) (one : (a b : K) → same a b ≡ true → a ≡ b) (flows : ℕ) (cache : LruCache K (Option V)) (ready : Option K) (kept : IsKept same flows cache ready) (key : K) where
+module _ {K V : Type 0} {same : K → K → Bool} (flows : ℕ) (cache : LruCache K (Option V)) (ready : Option K) {roomy : Bool} (kept : IsKept same flows cache ready roomy) where
+  -- where no key stands without an entry, the ready key may be forgotten
+  pub kept-forgotten : roomy ≡ false → IsKept same flows cache None false
+  kept-forgotten flat = record {
+    few = kept.few;
+    some = kept.some;
+    fits = kept.fits;
+    form = elim kept.form [
+      | inl plain ↦ inl (record { flat = refl; entries = plain.entries; cap = plain.cap; ready_is = tt })
+      | inr room ↦ let raised = room.raised in cc
+    ];
+  }
+
+  -- where one does, it may be taken away
+  pub kept-popped : roomy ≡ true → (after : LruCache K (Option V)) → after ≡ lru_cache (drop 1 cache.entries) cache.cap → IsKept same flows after None false
+  kept-popped raised after popped = elim kept.form [
+    | inl plain ↦ let flat = plain.flat in cc
+    | inr room ↦
+        let entries : after.entries ≡ held (known cache.entries) = ap (λ (c : LruCache K (Option V)). c.entries) popped ∙ ap (λ (es : List (K × Option V)). drop 1 es) room.entries in
+        let are : known after.entries ≡ known cache.entries = ap (λ (es : List (K × Option V)). known es) entries ∙ known-held (known cache.entries) in
+        record {
+          few = kept.few;
+          some = kept.some;
+          fits = rw are kept.fits;
+          form = inl (record { flat = refl; entries = entries ∙ sym (ap (λ (l : List (K × V)). held l) are); cap = inr (ap (λ (c : LruCache K (Option V)). c.cap) popped ∙ room.cap); ready_is = tt });
+        }
+  ]
+
+module _ {K V : Type 0} {same : K → K → Bool} (laws : IsEquivalence same) (one : (a b : K) → same a b ≡ true → a ≡ b) (flows : ℕ) (cache : LruCache K (Option V)) (ready : Option K) {roomy : Bool} (kept : IsKept same flows cache ready roomy) (key : K) where
   abbrev list : List (K × V)
   list = known cache.entries
 
@@ -108,6 +137,10 @@ module _ {K V : Type 0} {same : K → K → Bool} (laws : IsEquivalence same) (o
 
   flattened-none : (o : Option (Option V)) (p : Option V) → option_flatten o ≡ p → o ≡ None → p ≡ None
   flattened-none o p e h = sym e ∙ ap (λ (x : Option (Option V)). option_flatten x) h
+
+  pub none-where : (o : Option (Option V)) → false ≡ is_some o → o ≡ None
+  none-where None h = refl
+  none-where (Some x) h = cc
 
   pub some-none : (o : Option (Option V)) → IsSome o → o ≡ None → ⊥
   some-none None h e = cc
@@ -127,21 +160,22 @@ module _ {K V : Type 0} {same : K → K → Bool} (laws : IsEquivalence same) (o
         subst (λ (es : List (K × Option V)). IsSome (lookup (same key) es)) (sym roomy.entries) (rw (here, self) refl)
   ]
 
-  -- where no room was made, the ready key may be forgotten
-  pub kept-forgotten : cache.cap ≡ flows → IsKept same flows cache None
-  kept-forgotten cap = record {
-    few = kept.few;
-    some = kept.some;
-    fits = kept.fits;
-    form = elim kept.form [
-      | inl plain ↦ inl (record { entries = plain.entries; cap = plain.cap; ready_is = tt })
-      | inr roomy ↦ let room = roomy.cap in absurd (omega arith)
-    ];
-  }
+  -- the cache has room for as many pairs as the flows may be, or for one more
+  cap-is : (cache.cap ≡ flows) ⊎ (cache.cap ≡ flows + 1)
+  cap-is = elim kept.form [
+    | inl plain ↦ plain.cap
+    | inr room ↦ inr room.cap
+  ]
+
+  cap-wide : flows ≤ cache.cap
+  cap-wide = elim cap-is [
+    | inl e ↦ omega arith
+    | inr e ↦ omega arith
+  ]
 
   module _ (other : (ready ≡ None) ⊎ (ready ≡ Some key)) where
     -- where the key isn't in the cache, no key is ready
-    plain-where-absent : lookup (same key) cache.entries ≡ None → IsPlain same flows cache ready × (ready ≡ None)
+    plain-where-absent : lookup (same key) cache.entries ≡ None → IsPlain same flows cache ready roomy × (ready ≡ None)
     plain-where-absent absent = elim other [
       | inl none ↦ elim kept.form [
         | inl plain ↦ (plain, none)
@@ -154,20 +188,20 @@ module _ {K V : Type 0} {same : K → K → Bool} (laws : IsEquivalence same) (o
     unready-where-absent absent = (plain-where-absent absent).1
 
     -- no key is made ready
-    pub kept-absent : lookup (same key) cache.entries ≡ None → IsKept same flows cache None
-    kept-absent absent = let was = plain-where-absent absent in subst (λ (o : Option K). IsKept same flows cache o) was.1 kept
+    pub kept-absent : lookup (same key) cache.entries ≡ None → IsKept same flows cache None roomy
+    kept-absent absent = let was = plain-where-absent absent in subst (λ (o : Option K). IsKept same flows cache o roomy) was.1 kept
 
     -- the key is in the cache, and is made ready
-    pub kept-there : IsSome (lookup (same key) cache.entries) → IsKept same flows cache (Some key)
+    pub kept-there : IsSome (lookup (same key) cache.entries) → IsKept same flows cache (Some key) roomy
     kept-there there = record {
       few = kept.few;
       some = kept.some;
       fits = kept.fits;
       form = elim kept.form [
-        | inl plain ↦ inl (record { entries = plain.entries; cap = plain.cap; ready_is = in_list plain.entries })
-        | inr roomy ↦ elim other [
-          | inl none ↦ let r = roomy.ready_is in cc
-          | inr here ↦ inr (record { key = roomy.key; ready_is = sym here ∙ roomy.ready_is; entries = roomy.entries; cap = roomy.cap; absent = roomy.absent })
+        | inl plain ↦ inl (record { flat = plain.flat; entries = plain.entries; cap = plain.cap; ready_is = in_list plain.entries })
+        | inr room ↦ elim other [
+          | inl none ↦ let r = room.ready_is in cc
+          | inr here ↦ inr (record { raised = room.raised; key = room.key; ready_is = sym here ∙ room.ready_is; entries = room.entries; cap = room.cap; absent = room.absent })
         ]
       ];
     }
@@ -180,111 +214,85 @@ module _ {K V : Type 0} {same : K → K → Bool} (laws : IsEquivalence same) (o
         in_list e = with_entry (lookup (same key) list) (subst IsSome (ap (λ (es : List (K × Option V)). lookup (same key) es) e ∙ lookup-held (same key) list) there)
 
     -- the key was put in front, and is made ready
-    pub kept-new : (after : LruCache K (Option V)) → lookup (same key) cache.entries ≡ None → after ≡ lru_cache ((key, None) ∷ cache.entries) (cache.cap + 1) → IsKept same flows after (Some key)
+    pub kept-new : (after : LruCache K (Option V)) → lookup (same key) cache.entries ≡ None → after ≡ lru_cache ((key, None) ∷ cache.entries) (flows + 1) → IsKept same flows after (Some key) true
     kept-new after absent put =
         let plain = (plain-where-absent absent).0 in
         let entries : after.entries ≡ (key, None) ∷ cache.entries = ap (λ (c : LruCache K (Option V)). c.entries) put in
         let same_list : known after.entries ≡ list = ap (λ (es : List (K × Option V)). known es) entries in
         let behind : after.entries ≡ (key, None) ∷ held (known after.entries) = entries ∙ ap (λ (es : List (K × Option V)). (key, None) ∷ es) (plain.entries ∙ sym (ap (λ (l : List (K × V)). held l) same_list)) in
         let gone : lookup (same key) list ≡ None = flattened-none _ _ (look-kept same one key flows cache ready kept) absent in
-        let room : after.cap ≡ flows + 1 = ap (λ (c : LruCache K (Option V)). c.cap) put ∙ ap (λ (n : ℕ). n + 1) plain.cap in
         record {
           few = kept.few;
           some = kept.some;
           fits = rw same_list kept.fits;
-          form = inr (record { key = key; ready_is = refl; entries = behind; cap = room; absent = ap (λ (l : List (K × V)). lookup (same key) l) same_list ∙ gone });
+          form = inr (record { raised = refl; key = key; ready_is = refl; entries = behind; cap = ap (λ (c : LruCache K (Option V)). c.cap) put; absent = ap (λ (l : List (K × V)). lookup (same key) l) same_list ∙ gone });
         }
 
-    -- what is left where room was to be made for the key
-    pub kept-made : {T E : Type 0} (made : Result T E) (after : LruCache K (Option V)) → (IsSome (lookup (same key) cache.entries) → IsOk made × (after ≡ cache)) → (lookup (same key) cache.entries ≡ None → OnOk made (after ≡ lru_cache ((key, None) ∷ cache.entries) (cache.cap + 1))) → OnErr made ((after ≡ cache) × (lookup (same key) cache.entries ≡ None)) → IsKept same flows after (then_some (is_ok made) key)
-    kept-made (Err e) after there new err = subst (λ (c : LruCache K (Option V)). IsKept same flows c None) (sym err.0) (kept-absent err.1)
-    kept-made (Ok x) after there new err = at (lookup (same key) cache.entries) refl
-      where
-        at : (o : Option (Option V)) → lookup (same key) cache.entries ≡ o → IsKept same flows after (Some key)
-        at None h = kept-new after h (new h)
-        at (Some entry) h =
-            let is : IsSome (lookup (same key) cache.entries) = subst IsSome (sym h) refl in
-            subst (λ (c : LruCache K (Option V)). IsKept same flows c (Some key)) (sym (there is).1) (kept-there is)
+    -- what is left where the key was to be put in front
+    pub kept-made : {T E : Type 0} (made : Result T E) (after : LruCache K (Option V)) → lookup (same key) cache.entries ≡ None → OnOk made (after ≡ lru_cache ((key, None) ∷ cache.entries) (flows + 1)) → OnErr made (after ≡ cache) → IsKept same flows after (then_some (is_ok made) key) (is_ok made)
+    kept-made (Ok x) after absent new err = kept-new after absent new
+    kept-made (Err e) after absent new err =
+        let flat : roomy ≡ false = (plain-where-absent absent).0.flat in
+        subst (λ (c : LruCache K (Option V)). IsKept same flows c None false) (sym err) (subst (λ (b : Bool). IsKept same flows cache None b) flat (kept-absent absent))
 
     module _ (entry : V) where
       -- what the flows are when the key is set
       abbrev set_list : List (K × V)
       set_list = set_key same flows list key entry
 
-      set-plain : take flows (put_entries same (lru_cache (held list) flows) key (Some entry)) ≡ held set_list
+      set-plain : take flows (put_entries same (lru_cache (held list) cache.cap) key (Some entry)) ≡ held set_list
       set-plain = at (lookup_entry (same key) list) refl
         where
-          at : (o : Option (K × V)) → lookup_entry (same key) list ≡ o → take flows (put_entries same (lru_cache (held list) flows) key (Some entry)) ≡ held set_list
-          at None h = set-new same one key entry flows list (lookup-no_entry (same key) list h) kept.some
-          at (Some pair) h = set-found same one key entry flows list pair h
+          at : (o : Option (K × V)) → lookup_entry (same key) list ≡ o → take flows (put_entries same (lru_cache (held list) cache.cap) key (Some entry)) ≡ held set_list
+          at None h = set-new same one key entry flows cache.cap list (lookup-no_entry (same key) list h) kept.some cap-wide
+          at (Some pair) h = set-found same one key entry flows cache.cap list pair h
 
       set-entries : take flows (put_entries same cache key (Some entry)) ≡ held set_list
       set-entries = elim kept.form [
         | inl plain ↦
-            let form : cache ≡ lru_cache (held list) flows = ap (λ (es : List (K × Option V)). lru_cache es cache.cap) plain.entries ∙ ap (λ (n : ℕ). lru_cache (held list) n) plain.cap in
+            let form : cache ≡ lru_cache (held list) cache.cap = ap (λ (es : List (K × Option V)). lru_cache es cache.cap) plain.entries in
             ap (λ (c : LruCache K (Option V)). take flows (put_entries same c key (Some entry))) form ∙ set-plain
-        | inr roomy ↦
-            let here : roomy.key ≡ key = elim other [ inl none ↦ (let r = roomy.ready_is in cc) | inr e ↦ (let r = roomy.ready_is in cc) ] in
-            let form : cache ≡ lru_cache ((key, None) ∷ held list) (flows + 1) = ap (λ (es : List (K × Option V)). lru_cache es cache.cap) roomy.entries ∙ ap (λ (n : ℕ). lru_cache ((roomy.key, None) ∷ held list) n) roomy.cap ∙ ap (λ (k : K). lru_cache ((k, None) ∷ held list) (flows + 1)) here in
-            ap (λ (c : LruCache K (Option V)). take flows (put_entries same c key (Some entry))) form ∙ set-ready same one key entry flows list (laws.refl key) (subst (λ (k : K). lookup (same k) list ≡ None) here roomy.absent)
+        | inr room ↦
+            let here : room.key ≡ key = elim other [ inl none ↦ (let r = room.ready_is in cc) | inr e ↦ (let r = room.ready_is in cc) ] in
+            let form : cache ≡ lru_cache ((key, None) ∷ held list) (flows + 1) = ap (λ (es : List (K × Option V)). lru_cache es cache.cap) room.entries ∙ ap (λ (n : ℕ). lru_cache ((room.key, None) ∷ held list) n) room.cap ∙ ap (λ (k : K). lru_cache ((k, None) ∷ held list) (flows + 1)) here in
+            ap (λ (c : LruCache K (Option V)). take flows (put_entries same c key (Some entry))) form ∙ set-ready same one key entry flows list (laws.refl key) (subst (λ (k : K). lookup (same k) list ≡ None) here room.absent)
       ]
 
-      pub set-known : (after : LruCache K (Option V)) → after ≡ lru_cache (take flows (put_entries same cache key (Some entry))) flows → known after.entries ≡ set_list
+      pub set-known : (after : LruCache K (Option V)) → after ≡ lru_cache (take flows (put_entries same cache key (Some entry))) cache.cap → known after.entries ≡ set_list
       set-known after put = ap (λ (c : LruCache K (Option V)). known c.entries) put ∙ ap (λ (es : List (K × Option V)). known es) set-entries ∙ known-held set_list
 
-      pub kept-set : (after : LruCache K (Option V)) → after ≡ lru_cache (take flows (put_entries same cache key (Some entry))) flows → IsKept same flows after None
+      pub kept-set : (after : LruCache K (Option V)) → after ≡ lru_cache (take flows (put_entries same cache key (Some entry))) cache.cap → IsKept same flows after None false
       kept-set after put =
           let are : known after.entries ≡ set_list = set-known after put in
           let entries : after.entries ≡ held set_list = ap (λ (c : LruCache K (Option V)). c.entries) put ∙ set-entries in
           let few : length set_list ≤ flows = omega (arith, length-take flows ((key, entry) ∷ remove_entry (same key) list)) in
+          let cap : after.cap ≡ cache.cap = ap (λ (c : LruCache K (Option V)). c.cap) put in
           record {
             few = kept.few;
             some = kept.some;
             fits = rw are few;
-            form = inl (record { entries = entries ∙ sym (ap (λ (l : List (K × V)). held l) are); cap = ap (λ (c : LruCache K (Option V)). c.cap) put; ready_is = tt });
+            form = inl (record { flat = refl; entries = entries ∙ sym (ap (λ (l : List (K × V)). held l) are); cap = subst (λ (n : ℕ). (n ≡ flows) ⊎ (n ≡ flows + 1)) (sym cap) cap-is; ready_is = tt });
           }
 
-    -- A pair put in front of a cache whose room is that of the flows takes no more room than they may have.
-    put-fits : (pairs : List (K × Option V)) (most : ℕ) (value : Option V) → length pairs ≤ most → 0 < most → length (put_entries same (lru_cache pairs most) key value) ≤ most
-    put-fits pairs most value fits some = at (lookup_entry (same key) pairs) refl
-      where
-        at : (o : Option (K × Option V)) → lookup_entry (same key) pairs ≡ o → length (put_entries same (lru_cache pairs most) key value) ≤ most
-        at None h = rw h (omega (arith, length-take (most - 1) pairs))
-        at (Some pair) h = rw h (omega (arith, length-remove_entry (same key) pairs pair h))
+      -- with a pair put in front there is at most one more than the flows may be
+      pub put-fits : length (put_entries same cache key (Some entry)) ≤ flows + 1
+      put-fits = at (lookup_entry (same key) cache.entries) refl
+        where
+          pairs-fit : length cache.entries ≤ flows + 1
+          pairs-fit = elim kept.form [
+            | inl plain ↦ let e = ap (λ (es : List (K × Option V)). length es) plain.entries in omega (arith, e, length-held list, kept.fits)
+            | inr room ↦ let e = ap (λ (es : List (K × Option V)). length es) room.entries in omega (arith, e, length-held list, kept.fits)
+          ]
 
-    -- what is left where the key was to get an entry, of which P holds beside the one that it had
-    module _ {T E : Type 0} (P : Option V → V → T → Type 0) (told : Result T E) (after : LruCache K (Option V)) (put : IfOk told (λ x. (entry : V) × P (option_flatten (lookup (same key) cache.entries)) entry x × (after ≡ lru_cache (put_entries same cache key (Some entry)) cache.cap))) where
-      abbrev IsPut : T → Type 0
-      IsPut x = (entry : V) × P (option_flatten (lookup (same key) cache.entries)) entry x × (after ≡ lru_cache (put_entries same cache key (Some entry)) cache.cap)
+          at : (o : Option (K × Option V)) → lookup_entry (same key) cache.entries ≡ o → length (put_entries same cache key (Some entry)) ≤ flows + 1
+          at None h = elim cap-is [
+            | inl e ↦ rw h (omega (arith, e, kept.some, length-take (cache.cap - 1) cache.entries))
+            | inr e ↦ rw h (omega (arith, e, kept.some, length-take (cache.cap - 1) cache.entries))
+          ]
+          at (Some pair) h = rw h (omega (arith, pairs-fit, length-remove_entry (same key) cache.entries pair h))
 
-      abbrev IsSet : List (K × V) → T → Type 0
-      IsSet new x = (entry : V) × P (lookup (same key) list) entry x × (new ≡ set_key same flows list key entry)
-
-      old-known : (entry : V) (x : T) → P (option_flatten (lookup (same key) cache.entries)) entry x → P (lookup (same key) list) entry x
-      old-known entry x = subst (λ (known : Option V). P known entry x) (look-kept same one key flows cache ready kept)
-
-      -- where no key is ready, the pairs are no more than the flows may be
-      module _ (none : ready ≡ None) where
-        within : (entry : V) → after ≡ lru_cache (put_entries same cache key (Some entry)) cache.cap → after ≡ lru_cache (take flows (put_entries same cache key (Some entry))) flows
-        within entry is = elim kept.form [
-          | inl plain ↦
-              let form : cache ≡ lru_cache (held list) flows = ap (λ (es : List (K × Option V)). lru_cache es cache.cap) plain.entries ∙ ap (λ (n : ℕ). lru_cache (held list) n) plain.cap in
-              let size : length (held list) ≡ length list = length-held list in
-              let fits : length (put_entries same cache key (Some entry)) ≤ flows = rw form (put-fits (held list) flows (Some entry) (rw size kept.fits) kept.some) in
-              is ∙ ap (λ (n : ℕ). lru_cache (put_entries same cache key (Some entry)) n) plain.cap ∙ ap (λ (es : List (K × Option V)). lru_cache es flows) (sym (take_all flows (put_entries same cache key (Some entry)) fits))
-          | inr roomy ↦ let some = roomy.ready_is in cc
-        ]
-
-        pub kept-changed : OnErr told ((after ≡ cache) × (lookup (same key) cache.entries ≡ None)) → IsKept same flows after None
-        kept-changed err = at told put err
-          where
-            at : (r : Result T E) → IfOk r IsPut → OnErr r ((after ≡ cache) × (lookup (same key) cache.entries ≡ None)) → IsKept same flows after None
-            at (Ok x) is not = kept-set is.0 after (within is.0 is.2)
-            at (Err e) is not = subst (λ (c : LruCache K (Option V)). IsKept same flows c None) (sym not.0) (kept-absent not.1)
-
-        pub known-changed : IfOk told (IsSet (known after.entries))
-        known-changed = at told put
-          where
-            at : (r : Result T E) → IfOk r IsPut → IfOk r (IsSet (known after.entries))
-            at (Ok x) is = (is.0, old-known is.0 x is.1, set-known is.0 after (within is.0 is.2))
-            at (Err e) is = tt
+-- where no key stands without an entry, a key that is there may be made ready
+pub kept-readied : {K V : Type 0} {same : K → K → Bool} (laws : IsEquivalence same) (one : (a b : K) → same a b ≡ true → a ≡ b) (flows : ℕ) (cache : LruCache K (Option V)) (ready : Option K) {roomy : Bool} (kept : IsKept same flows cache ready roomy) (key : K) → roomy ≡ false → IsSome (lookup (same key) cache.entries) → IsKept same flows cache (Some key) roomy
+kept-readied laws one flows cache ready kept key flat there =
+    let unready = kept-forgotten flows cache ready kept flat in
+    rw flat (kept-there laws one flows cache None unready key (inl refl) there)

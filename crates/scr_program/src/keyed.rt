@@ -130,6 +130,7 @@ impl<P: Keyed> Program for P {
         FlowTable::make(alloc, P::most_flows(settings))
     }
 
+    #[inline(always)]
     fn prepare(_: &P::Settings, table: &mut Self::State, row: &Row) -> Result<(), OutOfMemory> {
         let fields = unpack(row);
         if P::looks_at(fields.kind) {

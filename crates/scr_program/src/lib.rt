@@ -20,8 +20,8 @@
 //! **What is only tested.** That calls succeed where there is memory, and the words of a datagram's rows.
 //!
 //! **Limits.** A table holds at most 65,536 flows, and hashes by a seed that is fixed and known: whoever picks the keys
-//! can make look-ups slow, and can't change their answers. A key that is made ready is looked up once more, and where
-//! it is new the cache is made larger and smaller again.
+//! can make look-ups slow, and can't change their answers. A key that is made ready is looked up once more, unless it is
+//! that of the newest flow. The cache of a table in which a new key was once made ready keeps room for one pair more.
 #![tactic(auto)]
 
 mod fields;

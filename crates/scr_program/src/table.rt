@@ -1,4 +1,4 @@
-ghost use Rattle.std.specs.Prelude.{◌≡◌, ◌≤◌, ◌⊎◌, ◌+◌, ◌^◌, ◌<◌, ◌∷◌, [], Option, None, length, Some, true, IfOk, OnOk, OnErr, IsOk, IsSome};
+ghost use Rattle.std.specs.Prelude.{◌≡◌, ◌≤◌, ◌⊎◌, ◌+◌, ◌^◌, ◌<◌, ◌∷◌, [], Option, None, length, take, Some, true, IfOk, OnOk, OnErr, IsOk, IsSome, is_some};
 ghost use Rattle.std.specs.List.{IsDistinct};
 ghost use Rattle.std.specs.Option.{option_flatten};
 ghost use Rattle.std.specs.Map.{lookup, keys_of};
@@ -22,10 +22,12 @@ pub const MOST_FLOWS: u32 = 65_536;
 /// key, for which the memory of a [`FlowTable::set`] was taken before.
 #[derive(Drop)]
 pub struct FlowTable<K: FlowKey, V: Copy + Drop> {
-    // A ready key that is no flow stands in front without an entry, and then the cache may hold one pair more.
+    // From the first ready key on that was no flow the cache may hold one pair more than there may be flows.
     cache: LruCache<K, Option<V>>,
     flows: NonZeroUsize,
     ready: Option<K>,
+    // Whether the ready key is no flow, and stands in front without an entry.
+    is_roomy: bool,
 }
 
 impl<K: FlowKey, V: Copy + Drop> Model for FlowTable<K, V> {
@@ -39,7 +41,7 @@ impl<K: FlowKey, V: Copy + Drop> Model for FlowTable<K, V> {
 
     ghost view = { λ t. record { flows = non_zero_usize_get t.flows; list = known t.cache.entries; ready = t.ready } };
 
-    ghost invariant = { λ t. IsKept K.eq (non_zero_usize_get t.flows) t.cache t.ready };
+    ghost invariant = { λ t. IsKept K.eq (non_zero_usize_get t.flows) t.cache t.ready t.is_roomy };
 }
 
 impl<K: FlowKey, V: Copy + Drop> FlowTable<K, V> {
@@ -54,6 +56,7 @@ impl<K: FlowKey, V: Copy + Drop> FlowTable<K, V> {
             cache: LruCache::new(alloc, flows)?,
             flows,
             ready: None,
+            is_roomy: false,
         })
     }
 
@@ -85,11 +88,7 @@ impl<K: FlowKey, V: Copy + Drop> FlowTable<K, V> {
         ensures distinct { IsDistinct K.eq (keys_of self.now.list) }
     {
         let pairs = self.cache.len();
-        let flows = if self.cache.cap() == self.flows {
-            pairs
-        } else {
-            pairs - 1
-        };
+        let flows = if self.is_roomy { pairs - 1 } else { pairs };
         flows as u32
     }
 
@@ -129,11 +128,13 @@ impl<K: FlowKey, V: Copy + Drop> FlowTable<K, V> {
         ensures known_succeeds { IsSome (lookup (K.eq key.now) self.old.list) → IsOk result }
         ensures ready_succeeds { self.old.ready ≡ Some key.now → IsOk result }
     {
-        if self.cache.cap() != self.flows {
+        if self.is_roomy {
             return self.update_with_room(key, next);
         }
         self.ready = None;
-        change(&mut self.cache, key, next)
+        let told = change(&mut self.cache, key, next)?;
+        truncate(&mut self.cache, self.flows);
+        Ok(told)
     }
 
     /// Gives a key the entry that `next` makes of the one it has, as [`FlowTable::update`] does. Where `next` makes none,
@@ -163,7 +164,7 @@ impl<K: FlowKey, V: Copy + Drop> FlowTable<K, V> {
         Ok(told)
     }
 
-    // The same where room was made for a ready key. The room is given back.
+    // The same where a ready key stands in front without an entry.
     #[cold]
     #[inline(never)]
     fn update_with_room<T: Drop, F: FnOnce(Option<V>) -> (V, T)>(
@@ -182,24 +183,47 @@ impl<K: FlowKey, V: Copy + Drop> FlowTable<K, V> {
     {
         self.forget_other(key);
         let told = change(&mut self.cache, key, next)?;
-        self.cache.resize(self.flows);
+        truncate(&mut self.cache, self.flows);
         self.ready = None;
+        self.is_roomy = false;
         Ok(told)
     }
 
     /// Makes a key ready, in place of the one that was: takes the memory that its `set` may need. The flows and their
-    /// order stay as they are, also in a full table.
+    /// order stay as they are, also in a full table. A key that is a flow's needs none.
     ///
     /// # Errors
     /// No key is ready then. A key that is a flow's, or is ready, meets no error.
+    #[inline(always)]
     pub fn prepare(&mut self, key: K) -> Result<(), OutOfMemory>
         ensures ok { OnOk result (self.new ≡ record self.old { ready = Some key }) }
         ensures err { OnErr result (self.new ≡ record self.old { ready = None }) }
         ensures known_succeeds { IsSome (lookup (K.eq key) self.old.list) → IsOk result }
         ensures ready_succeeds { self.old.ready ≡ Some key → IsOk result }
     {
+        if !self.is_roomy && holds(&self.cache, &key) {
+            self.ready = Some(key);
+            return Ok(());
+        }
+        self.prepare_with_room(key)
+    }
+
+    // The same where room is to be made for the key, or was made for one.
+    #[cold]
+    #[inline(never)]
+    fn prepare_with_room(&mut self, key: K) -> Result<(), OutOfMemory>
+        ensures ok { OnOk result (self.new ≡ record self.old { ready = Some key }) }
+        ensures err { OnErr result (self.new ≡ record self.old { ready = None }) }
+        ensures known_succeeds { IsSome (lookup (K.eq key) self.old.list) → IsOk result }
+        ensures ready_succeeds { self.old.ready ≡ Some key → IsOk result }
+    {
         self.forget_other(&key);
-        let room = make_room(&mut self.cache, key);
+        if self.cache.contains(&key) {
+            self.ready = Some(key);
+            return Ok(());
+        }
+        let room = make_room(&mut self.cache, self.flows, key);
+        self.is_roomy = room.is_ok();
         self.ready = room.is_ok().then_some(key);
         room
     }
@@ -218,16 +242,27 @@ impl<K: FlowKey, V: Copy + Drop> FlowTable<K, V> {
         }
     }
 
-    // Forgets the ready key, and gives back the room that was made for it.
+    // Forgets the ready key. Where it is no flow, it goes.
     #[inline(never)]
     fn forget_ready(&mut self)
         ensures { self.new ≡ record self.old { ready = None } }
     {
-        if self.cache.cap() != self.flows {
+        if self.is_roomy {
             drop(self.cache.pop_mru());
-            self.cache.resize(self.flows);
         }
+        self.is_roomy = false;
         self.ready = None;
+    }
+}
+
+// Whether a key is there. The newest one is asked first, as in a look-up.
+#[inline(always)]
+fn holds<K: FlowKey, V: Copy + Drop>(cache: &LruCache<K, Option<V>>, key: &K) -> bool
+    ensures { result ≡ is_some (lookup (K.eq key.now) cache.now.entries) }
+{
+    match cache.peek_mru() {
+        Some((newest, _)) if newest == key => true,
+        _ => cache.contains(key),
     }
 }
 
@@ -269,22 +304,32 @@ fn put<K: FlowKey, V: Copy + Drop>(
     Ok(())
 }
 
-// Puts a key that isn't there in front of all pairs, without an entry and with room for one pair more.
+// Drops the last pair where there is one more than the flows may be.
+#[inline(always)]
+fn truncate<K: FlowKey, V: Copy + Drop>(cache: &mut LruCache<K, Option<V>>, flows: NonZeroUsize)
+    requires { length cache.old.entries ≤ non_zero_usize_get flows + 1 }
+    ensures { cache.new ≡ lru_cache (take (non_zero_usize_get flows) cache.old.entries) cache.old.cap }
+{
+    if cache.len() > flows.get() {
+        drop(cache.pop_lru());
+    }
+}
+
+// Puts a key that isn't there in front of all pairs, without an entry and with room for it beside the flows.
 fn make_room<K: FlowKey, V: Copy + Drop>(
     cache: &mut LruCache<K, Option<V>>,
+    flows: NonZeroUsize,
     key: K,
 ) -> Result<(), OutOfMemory>
-    requires fits { length cache.old.entries ≤ cache.old.cap }
-    requires few { cache.old.cap ≤ 2 ^ 17 }
-    ensures there { IsSome (lookup (K.eq key) cache.old.entries) → IsOk result × (cache.new ≡ cache.old) }
-    ensures new { lookup (K.eq key) cache.old.entries ≡ None → OnOk result (cache.new ≡ lru_cache ((key, None) ∷ cache.old.entries) (cache.old.cap + 1)) }
-    ensures err { OnErr result ((cache.new ≡ cache.old) × (lookup (K.eq key) cache.old.entries ≡ None)) }
+    requires absent { lookup (K.eq key) cache.old.entries ≡ None }
+    requires fits { length cache.old.entries ≤ non_zero_usize_get flows }
+    requires held { length cache.old.entries ≤ cache.old.cap }
+    requires few { non_zero_usize_get flows ≤ 2 ^ 17 }
+    ensures new { OnOk result (cache.new ≡ lru_cache ((key, None) ∷ cache.old.entries) (non_zero_usize_get flows + 1)) }
+    ensures err { OnErr result (cache.new ≡ cache.old) }
 {
-    if cache.contains(&key) {
-        return Ok(());
-    }
     let cap = cache.cap();
-    cache.resize(cap.saturating_add(1));
+    cache.resize(flows.saturating_add(1));
     if let Err(failed) = cache.put(key, None) {
         cache.resize(cap);
         return Err(failed.into());

@@ -1,11 +1,11 @@
 -- The cache holds the flows as they are when the key has its entry, or as they were.
-use Rattle.std.proofs.Common.{◌≡◌, ◌∙◌, ◌⊎◌, None, Option, Some, List, take, ap, subst}
+use Rattle.std.proofs.Common.{◌≡◌, ◌∙◌, ◌⊎◌, None, Option, Some, List, length, take, ap, subst}
 use Rattle.std.specs.Map.{lookup}
 use Rattle.std.specs.Option.{option_flatten}
 use Rattle.std.specs.NonZero.{non_zero_usize_get}
 use Rattle.lru.specs.LruCache.{LruCache, lru_cache}
 use Rattle.scr_program.specs.FlowTable.{Table, known}
-use Rattle.scr_program.proofs.Kept.{has-known, has-ready, some-none, unready-where-absent, kept-set, set-known, look-kept}
+use Rattle.scr_program.proofs.Kept.{has-known, has-ready, some-none, unready-where-absent, kept-set, put-fits, set-known, look-kept}
 use Rattle.scr_program.proofs.table.FlowTable.update_with_room.Goals as goal
 
 pub returns-in_err-told-clause-ready : goal.returns-in_err-told-clause-ready
@@ -26,14 +26,22 @@ returns-in_err-told-clause-ready_succeeds g c h =
     let there = has-ready g.met.K.Eq.laws g.met.K.FlowKey.is_one _ _ _ c.self.invariant c.args.key.now is in
     absurd (some-none g.met.K.Eq.laws g.met.K.FlowKey.is_one _ _ _ c.self.invariant c.args.key.now _ there c.in_err-told.ensures.err.1)
 
+pub truncate-requires : goal.truncate-requires
+truncate-requires g c =
+    let is : c.self.inside.ready ≡ c.forget_other.new.self.ready = ap (λ (t : Table g.row.K.Denot g.row.V.Denot). t.ready) c.self.view_is in
+    let other : (c.self.inside.ready ≡ None) ⊎ (c.self.inside.ready ≡ Some c.args.key.now) = rw is c.forget_other.ensures.other in
+    let put = c.in_ok-told.ensures.put in
+    let fits = put-fits g.met.K.Eq.laws g.met.K.FlowKey.is_one _ _ _ c.self.invariant c.args.key.now other put.0 in
+    rw (ap (λ (cache : LruCache g.row.K.Denot (Option g.row.V.Denot)). length cache.entries) put.2) fits
+
 pub invariant_of-self-2 : goal.invariant_of-self-2
 invariant_of-self-2 g c =
     let is : c.self.inside.ready ≡ c.forget_other.new.self.ready = ap (λ (t : Table g.row.K.Denot g.row.V.Denot). t.ready) c.self.view_is in
     let other : (c.self.inside.ready ≡ None) ⊎ (c.self.inside.ready ≡ Some c.args.key.now) = rw is c.forget_other.ensures.other in
     let flows = non_zero_usize_get c.self.inside.flows in
     let put = c.in_ok-told.ensures.put in
-    let resized = c.resize.ensures ∙ ap (λ (cache : LruCache g.row.K.Denot (Option g.row.V.Denot)). lru_cache (take flows cache.entries) flows) put.2 in
-    kept-set g.met.K.Eq.laws g.met.K.FlowKey.is_one _ _ _ c.self.invariant c.args.key.now other put.0 c.resize.new.self resized
+    let truncated = c.truncate.ensures ∙ ap (λ (cache : LruCache g.row.K.Denot (Option g.row.V.Denot)). lru_cache (take flows cache.entries) cache.cap) put.2 in
+    kept-set g.met.K.Eq.laws g.met.K.FlowKey.is_one _ _ _ c.self.invariant c.args.key.now other put.0 c.truncate.new.cache truncated
 
 pub returns-clause-updated : goal.returns-clause-updated
 returns-clause-updated g c =
@@ -43,8 +51,8 @@ returns-clause-updated g c =
     let list : known c.self.inside.cache.entries ≡ c.args.self.now.list = ap (λ (t : Table g.row.K.Denot g.row.V.Denot). t.list) c.self.view_is ∙ c.forget_other.ensures.list in
     let flows = non_zero_usize_get c.self.inside.flows in
     let put = c.in_ok-told.ensures.put in
-    let resized = c.resize.ensures ∙ ap (λ (cache : LruCache g.row.K.Denot (Option g.row.V.Denot)). lru_cache (take flows cache.entries) flows) put.2 in
-    let set = set-known g.met.K.Eq.laws g.met.K.FlowKey.is_one _ _ _ c.self.invariant c.args.key.now other put.0 c.resize.new.self resized in
+    let truncated = c.truncate.ensures ∙ ap (λ (cache : LruCache g.row.K.Denot (Option g.row.V.Denot)). lru_cache (take flows cache.entries) cache.cap) put.2 in
+    let set = set-known g.met.K.Eq.laws g.met.K.FlowKey.is_one _ _ _ c.self.invariant c.args.key.now other put.0 c.truncate.new.cache truncated in
     let was : option_flatten (lookup (g.K.PartialEq.eq c.args.key.now) c.self.inside.cache.entries) ≡ lookup (g.K.PartialEq.eq c.args.key.now) c.args.self.now.list =
     look-kept g.K.PartialEq.eq g.met.K.FlowKey.is_one c.args.key.now _ _ _ c.self.invariant ∙ ap (λ (pairs : List (g.row.K.Denot × g.row.V.Denot)). lookup (g.K.PartialEq.eq c.args.key.now) pairs) list in
     let called = subst (λ (entry : Option g.row.V.Denot). g.F.FnOnce.post c.args.next (entry, tt) (put.0, c.in_ok-told.told)) was put.1 in
