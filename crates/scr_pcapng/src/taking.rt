@@ -168,9 +168,11 @@ impl BlockReader {
         found
     }
 
-    // What a reader answers that found this.
+    // What a reader answers that found this. It has come no further than is taken.
     fn answer(&self, found: Option<RecordInfo>) -> Result<Option<RecordInfo>, AnyError>
-        ensures { result ≡ answer_with self.now.progress found }
+        ensures told { result ≡ answer_with self.now.progress found }
+        ensures few_packets { self.now.position.packets ≤ RECORDS }
+        ensures few_blocks { self.now.position.blocks ≤ BLOCKS }
     {
         match self.progress {
             Progress::Reading => Ok(found),
