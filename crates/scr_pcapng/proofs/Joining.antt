@@ -51,7 +51,7 @@ next-named (reader.Blocks blocks) fault named = λ is. subst IsBlockCause is nam
 
 -- records of the libpcap file format are those of either
 no_section : (behind : List ℕ) (format : Format) → header_of (SECTION ++ behind) ≡ Ok format → ⊥
-unfolding (header_of, format_of)
+unfolding header_of format_of
 no_section behind format valid =
     elim (cases_Bool (nat_lt (length (SECTION ++ behind)) HEADER_SIZE)) [
       | inl short ↦ let told : Err capture.ShortHeader ≡ Ok format = sym (rw short refl) ∙ valid in cc
