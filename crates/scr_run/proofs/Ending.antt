@@ -202,21 +202,21 @@ reads-of_blocks (blocks.LinkType block) before now same = same
 reads-of_blocks (blocks.TooMany limit) before now same = same
 reads-of_blocks (blocks.TooManyBlocks limit) before now same = same
 
-reads_of : {T : Type 0} (error : AnyError) (before now : ℕ) → (error ≡ any.Classic capture.ReadFault → ⊥) → now ≡ faults_counted {T = T} (Err error) before
+reads_of : (T : Type 0) (error : AnyError) (before now : ℕ) → (error ≡ any.Classic capture.ReadFault → ⊥) → now ≡ faults_counted {T = T} (Err error) before
     → now ≡ reads_behind (status_of error) before
-reads_of (any.Classic fault) before now named counts =
+reads_of T (any.Classic fault) before now named counts =
     reads-of_classic fault before now (λ is. named (ap (λ (f : CaptureError). any.Classic f) is)) counts
-reads_of (any.Ng fault) before now named counts = reads-of_blocks fault before now counts
-reads_of any.ReadFault before now named counts = counts
-reads_of (any.OutOfMemory want) before now named counts = counts
+reads_of T (any.Ng fault) before now named counts = reads-of_blocks fault before now counts
+reads_of T any.ReadFault before now named counts = counts
+reads_of T (any.OutOfMemory want) before now named counts = counts
 
-pub StopsReading-from : {T : Type 0} (left : Option (List ℕ)) (before middle now : ℕ) (error : AnyError) (status : Status)
+pub StopsReading-from : (T : Type 0) (left : Option (List ℕ)) (before middle now : ℕ) (error : AnyError) (status : Status)
     → now ≡ faults_counted {T = T} (Err error) middle → middle ≡ before → (error ≡ any.Classic capture.ReadFault → ⊥) → IsCauseOf (reading_of left) error
     → status ≡ status_of error → StopsReading left before now status
-StopsReading-from {T} left before middle now error status counts same named cause is =
+StopsReading-from T left before middle now error status counts same named cause is =
     subst (StopsReading left before now) (sym is) (record {
       why = IsStop-of left error cause;
-      reads = reads_of {T = T} error before now named (subst (λ (n : ℕ). now ≡ faults_counted {T = T} (Err error) n) same counts);
+      reads = reads_of T error before now named (subst (λ (n : ℕ). now ≡ faults_counted {T = T} (Err error) n) same counts);
     })
 
 -- no memory for it

@@ -40,14 +40,14 @@ returns-clause-few g c =
 pub returns-in_err-reader-clause-stop : goal.returns-in_err-reader-clause-stop
 returns-in_err-reader-clause-stop g c =
     let failed = err_from_is_err_and c.from_residual-in_err-reader.result c.from_residual-in_err-reader.ensures.1 in
-    rw failed.1 (StopsReading-from {T = AnyReader} (g.S.Source.left c.args.capture.now) _ _ _ _ failed.0 c.in_err-reader.ensures.counts refl
+    rw failed.1 (StopsReading-from AnyReader (g.S.Source.left c.args.capture.now) _ _ _ _ failed.0 c.in_err-reader.ensures.counts refl
     (begin-named _ c.in_err-reader.ensures.named) c.in_err-reader.ensures.refused failed.2)
 
 pub returns-in_err-info-clause-stop : goal.returns-in_err-info-clause-stop
 returns-in_err-info-clause-stop g c =
     let failed = err_from_is_err_and c.from_residual-in_err-info.result c.from_residual-in_err-info.ensures.1 in
     let was = c.loop-rows.invariant in
-    rw failed.1 (StopsReading-from {T = Option RecordInfo} (g.S.Source.left c.args.capture.now) _ _ _ _ failed.0 (c.in_err-info.ensures.counts was.reading) was.calm
+    rw failed.1 (StopsReading-from (Option RecordInfo) (g.S.Source.left c.args.capture.now) _ _ _ _ failed.0 (c.in_err-info.ensures.counts was.reading) was.calm
     (next-named _ _ (c.in_err-info.ensures.named was.reading))
     (HasTaken-fault (g.P.Program.row_of c.args.settings.now) _ _ _ _ _ was.taken (c.in_err-info.ensures.answers was.reading)) failed.2)
 
