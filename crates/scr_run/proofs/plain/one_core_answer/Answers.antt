@@ -32,7 +32,6 @@ loop-core-preserved g c =
     let row = g.P.Program.row_of c.args.settings.now (fields c.bytes.result.now) c.in-Some.info.time in
     record {
       taken = HasTaken-more (g.P.Program.row_of c.args.settings.now) _ _ _ _ _ _ _ _ _ _ was.taken c.bytes.ensures.bytes counted.1 took counted.0
-         
           (λ rows holds number. (
             c.in_ok-take.ensures.given rows holds.1 ∙ ap (λ (t : List Given). t ++ record { number = c.in-Some.info.number; verdict = verdict_after rows row } ∷ []) holds.0 ∙ sym (verdicts-push verdict_after rows row c.in-Some.info.number number),
             c.in_ok-take.ensures.stands rows holds.1,
