@@ -6,6 +6,7 @@ them. A talk is the mixes that a source's frames are of, in turn.
 import functools
 import struct
 
+import blocks
 from captures import header, tcp, udp
 
 SOURCES = 50
@@ -53,17 +54,30 @@ def records_of(mix):
     return [struct.pack("<II", len(frame), len(frame)) + frame for frame in mix]
 
 
+def drawn(frames, talks):
+    """What is drawn for each of so many frames, with its time in microseconds: they are 100 apart."""
+    turns, state = [0] * SOURCES, 1
+    for number in range(frames):
+        state = (state * 6_364_136_223_846_793_005 + 1_442_695_040_888_963_407) % 2**64
+        source = (state >> 33) % SOURCES
+        talk = talks[source]
+        yield 100 * number, talk[turns[source]][(state >> 45) % 100]
+        turns[source] = (turns[source] + 1) % len(talk)
+
+
 def write_capture(path, frames, talk_of=usual):
-    """A capture of so many frames, 100 microseconds apart."""
+    """A capture of so many frames."""
     talks = [[records_of(mix) for mix in talk_of(f"10.0.0.{host}", host)] for host in range(1, SOURCES + 1)]
-    turns = [0] * SOURCES
-    state = 1
     with open(path, "wb") as file:
         file.write(header())
-        for number in range(frames):
-            state = (state * 6_364_136_223_846_793_005 + 1_442_695_040_888_963_407) % 2**64
-            seconds, fraction = divmod(100 * number, 1_000_000)
-            source = (state >> 33) % SOURCES
-            talk = talks[source]
-            file.write(struct.pack("<II", seconds, fraction) + talk[turns[source]][(state >> 45) % 100])
-            turns[source] = (turns[source] + 1) % len(talk)
+        for time, record in drawn(frames, talks):
+            file.write(struct.pack("<II", *divmod(time, 1_000_000)) + record)
+
+
+def write_blocks(path, frames, talk_of=usual):
+    """The same frames in blocks (pcapng)."""
+    talks = [talk_of(f"10.0.0.{host}", host) for host in range(1, SOURCES + 1)]
+    with open(path, "wb") as file:
+        file.write(blocks.section() + blocks.interface())
+        for time, frame in drawn(frames, talks):
+            file.write(blocks.enhanced(frame, time))

@@ -1,5 +1,8 @@
 """The files of the folder that SCR_CAPTURES names, which may be any files."""
 import os
+import shutil
+import subprocess
+import tempfile
 
 from running import compare, difference, outcome, shown
 
@@ -35,6 +38,8 @@ def given_captures(program):
             yield f"{name}: {chosen} as plain", as_plain(program, chosen, data)
             call = f"run program={chosen} {CALLS[chosen][3]}"
             yield f"{name}: {chosen} whatever the ring", agreeing(program, [call, f"{call} ring=1", f"{call} threads=no"], data)
+        if shutil.which("tcpdump"):
+            yield f"{name}: as tcpdump writes it", as_converted(program, f"{folder}/{name}", data)
 
 
 def as_plain(program, chosen, data):
@@ -43,10 +48,21 @@ def as_plain(program, chosen, data):
                       words)
 
 
+def as_converted(program, path, data):
+    """What is wrong where tcpdump takes the whole file, and writes a capture that has other verdicts. No times are looked at."""
+    words = "plain program=ddos threshold=3".split()
+    with tempfile.NamedTemporaryFile() as made:
+        done = subprocess.run(["tcpdump", "-r", path, "-w", made.name], stdout=subprocess.DEVNULL, stderr=subprocess.DEVNULL)
+        found = outcome(program, words, data)
+        if done.returncode or found.status:
+            return None
+        return difference(outcome(program, words, made.read()), found, words)
+
+
 def agreeing(program, calls, data):
     """What is wrong where the calls differ, or end with a status that no file gives."""
     first = outcome(program, calls[0].split(), data)
-    if first.status not in (0, 2, 6):
+    if first.status not in (0, 2, 6, 7):
         return f"words: {shown(calls[0].split())}\ncame:   status {first.status}, {first.err[:200]!r}"
     return next(filter(None, (difference(outcome(program, words.split(), data), first, words.split()) for words in calls[1:])),
                 None)

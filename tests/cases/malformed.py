@@ -20,7 +20,7 @@ HEADERS = [
     ("23 bytes", header()[:23], "ShortHeader"),
     ("a short header with another magic", bytes(23), "ShortHeader"),
     ("24 zero bytes", bytes(24), "Magic"),
-    ("a pcapng block", bytes.fromhex("0a0d0d0a") + bytes(20), "Magic"),
+    ("a type of blocks in the other order", bytes.fromhex("0a0d0a0d") + bytes(20), "Magic"),
     ("a magic with one bit more", header(magic=0xA1B2C3D5), "Magic"),
     ("a magic with its halves swapped", header(magic=0xC3D4A1B2), "Magic"),
     ("another magic and another version", header(magic=1, version=(2, 3)), "Magic"),

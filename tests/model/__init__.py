@@ -5,9 +5,9 @@
 import collections
 import functools
 
-from . import folds, generator, plan, report
+from . import blocks, folds, generator, plan, reading, report
 from .frames import fields
-from .reading import Malformed, records
+from .reading import Malformed
 from .words import Refused, settings
 
 Outcome = collections.namedtuple("Outcome", "status out err")
@@ -23,7 +23,8 @@ def fault(status, cause):
 def packets(capture):
     """The time and the fields of each frame of a capture."""
     known = functools.lru_cache(maxsize=100_000)(fields)
-    return [Packet(time, known(frame)) for time, frame in records(capture)]
+    form = blocks if capture.startswith(blocks.FIRST) else reading
+    return [Packet(time, known(frame)) for time, frame in form.records(capture)]
 
 
 def answer(words, capture=b""):

@@ -1,5 +1,5 @@
 -- How a reader of blocks goes on, one block after another.
-use Rattle.std.proofs.Common.{◌≡◌, ℕ, ◌+◌, ◌-◌, ◌*◌, ◌≤◌, ◌<◌, false, List, [], ◌∷◌, ◌++◌, length, Option, Some, None, Result, Ok, Err, IfErr, IfSome, ◌==◌, refl, sym, ap, subst, ◌∙◌, arith}
+use Rattle.std.proofs.Common.{◌≡◌, ◌≢◌, ℕ, ◌+◌, ◌-◌, ◌*◌, ◌≤◌, ◌<◌, false, List, [], ◌∷◌, ◌++◌, length, Option, Some, None, Result, Ok, Err, IfErr, IfSome, ◌==◌, refl, sym, ap, subst, ◌∙◌, arith}
 use Rattle.std.proofs.lemmas.Bool.{ne_eqb}
 use Rattle.std.proofs.lemmas.List.{length-append}
 use Rattle.std.specs.Io.KnownBytes.{IsAtEnd}
@@ -19,7 +19,7 @@ use Rattle.scr_pcapng.specs.Blocks.{BLOCKS, Block, IsBlock}
 use Rattle.scr_pcapng.specs.Parts.{IsFaultOf, TakesBlock}
 use Rattle.scr_pcapng.specs.Reading.{IsFaultyRest, IsReadingFrom, IsRestInBlocks, block_records}
 use Rattle.scr_pcapng.specs.State.{BlockReaderState, IsBlockCause, IsCauseOf, IsCounted, LONGEST_BLOCK, ReadsOn, Rest, ahead, faults_counted, left_in, most_of_block, put_before, reach_in, rest_in_blocks}
-use Rattle.scr_pcapng.specs.Steps.{Steps, Tells, answer_with, info_in}
+use Rattle.scr_pcapng.specs.Steps.{IsEndOf, Steps, Tells, answer_with, info_in}
 
 -- the reading behind a block, with its records in front
 reading-behind : (position : Position) (b : Block) (behind : List ℕ) (records : List Record) (reading : Result (List Record) AnyError) → IsBlock position b
@@ -119,14 +119,15 @@ rest-faulty position left fault faulty = cause (ahead position left) fault fault
 -- a step, by how far it has come
 pub Steps-from : (old : BlockReaderState) (left : Option (List ℕ)) (faults : ℕ) (new : BlockReaderState) (rest : Option (List ℕ)) (faults_now : ℕ) (frame : List ℕ)
     (found : Option RecordInfo) (progress : Progress) → old.progress ≡ Reading → new.progress ≡ progress
-    → Tells (rest_in_blocks old.position left) (rest_in_blocks new.position rest) frame progress found
+    → Tells (rest_in_blocks old.position left) (rest_in_blocks new.position rest) frame progress found → IsEndOf progress rest
     → IsCounted old.position.packets new.position.packets frame (answer_with progress found)
     → IfErr (answer_with progress found) IsBlockCause → faults_now ≡ faults_counted (answer_with progress found) faults
     → ((start : Option (List ℕ)) → GivesAtMost (reach_in old.position Reading) start (ahead old.position left)
     → GivesAtMost (reach_in new.position progress) start (left_in new.position progress rest))
     → Steps old left faults new rest faults_now frame found
-Steps-from old left faults new rest faults_now frame found progress reading is tells counts named faulty reaches = record {
+Steps-from old left faults new rest faults_now frame found progress reading is tells ends counts named faulty reaches = record {
   tells = subst (λ (p : Progress). Tells (rest_in_blocks old.position left) (rest_in_blocks new.position rest) frame p found) (sym is) tells;
+  ends = subst (λ (p : Progress). IsEndOf p rest) (sym is) ends;
   counts = subst (λ (p : Progress). IsCounted old.position.packets new.position.packets frame (answer_with p found)) (sym is) counts;
   named = subst (λ (p : Progress). IfErr (answer_with p found) IsBlockCause) (sym is) named;
   faulty = subst (λ (p : Progress). faults_now ≡ faults_counted (answer_with p found) faults) (sym is) faulty;
@@ -188,7 +189,7 @@ Steps-block old left faults new rest faults_now frame content found is_found rea
     (block-tells (rest_in_blocks old.position left) (rest_in_blocks new.position rest) frame content new.position.packets
     (subst (λ (p : Position). ReadsOn (rest_in_blocks old.position left) (rest_in_blocks p rest) (records_with content frame)) (sym next)
     (ReadsOn-block old.position left rest content frame block)))
-    (block-counts old.position new.position frame content next sized) tt same
+    tt (block-counts old.position new.position frame content next sized) tt same
     (reaches-behind old.position new.position content left rest next few more))
 
 -- nothing is taken at the end
@@ -203,10 +204,10 @@ reaches-more : (n m : ℕ) (front rest start : Option (List ℕ)) → GivesAtMos
 reaches-more n m front rest start more before = GivesAtMost-then n m start front rest more.front before more.given more.within
 
 pub Steps-ended : (old : BlockReaderState) (left : Option (List ℕ)) (faults : ℕ) (new : BlockReaderState) (rest : Option (List ℕ)) (faults_now : ℕ) (frame : List ℕ)
-    → old.progress ≡ Reading → new.progress ≡ Ended → new.position ≡ old.position → IsAtEnd (ahead old.position left)
+    → old.progress ≡ Reading → new.progress ≡ Ended → new.position ≡ old.position → IsAtEnd (ahead old.position left) → IsAtEnd rest
     → GivesAtMost (most_of_block old.position) (ahead old.position left) rest → faults_now ≡ faults → Steps old left faults new rest faults_now frame None
-Steps-ended old left faults new rest faults_now frame reading is same end more same_faults =
-    Steps-from old left faults new rest faults_now frame None Ended reading is (rest-ended old.position left end)
+Steps-ended old left faults new rest faults_now frame reading is same end none more same_faults =
+    Steps-from old left faults new rest faults_now frame None Ended reading is (rest-ended old.position left end) none
     (ap (λ (p : Position). p.packets) same) tt same_faults
     (λ start before. subst (λ (p : Position). GivesAtMost (p.blocks * LONGEST_BLOCK) start rest) (sym same)
     (GivesAtMost-more _ _ start rest (omega arith)
@@ -217,7 +218,7 @@ pub Steps-refused : (old : BlockReaderState) (left : Option (List ℕ)) (faults 
     → GivesAtMost (most_of_block old.position) (ahead old.position left) rest → faults_now ≡ faults_counted {T = Option Content} (Err error) faults
     → Steps old left faults new rest faults_now frame None
 Steps-refused old left faults new rest faults_now frame error reading is same faulty more counted =
-    Steps-from old left faults new rest faults_now frame None (Refused error) reading is (rest-faulty old.position left error faulty)
+    Steps-from old left faults new rest faults_now frame None (Refused error) reading is (rest-faulty old.position left error faulty) tt
     (ap (λ (p : Position). p.packets) same) (block_cause (ahead old.position left) error faulty) (counted ∙ same_count error)
     (λ start before. subst (λ (p : Position). GivesAtMost (p.blocks * LONGEST_BLOCK + most_of_block p) start rest) (sym same)
     (reaches-more (old.position.blocks * LONGEST_BLOCK) (most_of_block old.position) (ahead old.position left) rest start more before))
@@ -238,7 +239,7 @@ Steps-refused old left faults new rest faults_now frame error reading is same fa
 pub Steps-none : (reader : BlockReaderState) (left : Option (List ℕ)) (faults : ℕ) (frame : List ℕ) → reader.progress ≡ Reading
     → Steps reader left faults reader left faults frame None
 Steps-none reader left faults frame reading =
-    Steps-from reader left faults reader left faults frame None Reading reading reading (ReadsOn-none (rest_in_blocks reader.position left)) refl tt refl (λ start before. before)
+    Steps-from reader left faults reader left faults frame None Reading reading reading (ReadsOn-none (rest_in_blocks reader.position left)) tt refl tt refl (λ start before. before)
 
 -- one step after another
 pub Steps-then : (old : BlockReaderState) (left : Option (List ℕ)) (faults : ℕ) (mid : BlockReaderState) (between : Option (List ℕ)) (faults_between : ℕ)
@@ -254,11 +255,19 @@ Steps-then old left faults mid between faults_between new rest faults_now frame 
     let faulty : faults_between ≡ faults = subst (λ (p : Progress). faults_between ≡ faults_counted (answer_with p None) faults) reading first.faulty in
     record {
       tells = Tells-then a b (rest_in_blocks new.position rest) frame new.progress found reads second.tells;
+      ends = second.ends;
       counts = subst (λ (n : ℕ). IsCounted n new.position.packets frame (answer_with new.progress found)) packets second.counts;
       named = second.named;
       faulty = subst (λ (n : ℕ). faults_now ≡ faults_counted (answer_with new.progress found) n) faulty second.faulty;
       reaches = λ start before. second.reaches start (first.reaches start before);
     }
+
+-- where nothing was found and no error came, nothing is left
+pub end-told : (progress : Progress) (found : Option RecordInfo) (rest : Option (List ℕ)) → answer_with progress found ≡ Ok None → (found ≡ None → progress ≢ Reading)
+    → IsEndOf progress rest → IsAtEnd rest
+end-told Reading found rest told stops ends = let none : found ≡ None = cc in absurd (stops none refl)
+end-told Ended found rest told stops ends = ends
+end-told (Refused fault) found rest told stops ends = absurd (cc)
 
 -- how many blocks a reader can still take, and the end
 abbrev pub rounds : Progress → ℕ → ℕ

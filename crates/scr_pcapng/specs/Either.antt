@@ -13,6 +13,7 @@ use Rattle.scr_pcapng.specs.declared.error.AnyError.{AnyError}
 use Rattle.scr_pcapng.specs.declared.error.AnyError.TheVariants as any_error
 use Rattle.scr_pcapng.specs.declared.progress.Progress.{Progress}
 use Rattle.scr_pcapng.specs.declared.progress.Progress.TheVariants.{Reading, Ended, Refused}
+use Rattle.scr_pcapng.specs.Blocks.{BLOCKS}
 use Rattle.scr_pcapng.specs.Reading.{IsReading}
 use Rattle.scr_pcapng.specs.State.{IsBlockCause, Rest, any_of, left_of, reach, rest_in_blocks}
 
@@ -48,6 +49,16 @@ rest_of (Blocks reader) left = rest_in_blocks reader.position left
 abbrev pub records_of : AnyReader → ℕ
 records_of (Classic reader) = reader.taken
 records_of (Blocks reader) = reader.position.packets
+
+-- how many blocks were taken; the libpcap file format has none
+abbrev pub blocks_of : AnyReader → ℕ
+blocks_of (Classic reader) = 0
+blocks_of (Blocks reader) = reader.position.blocks
+
+-- no more records, and no more blocks, than are taken of a capture
+pub record IsWithinLimits (reader : AnyReader) : Type 0 where
+  pub few_records : records_of reader ≤ RECORDS
+  pub few_blocks : blocks_of reader ≤ BLOCKS
 
 -- how far a reader has come, by the causes of both formats
 abbrev pub progress_in : classic.Progress → Progress

@@ -1,8 +1,10 @@
-ghost use Rattle.std.specs.Prelude.{◌≡◌, ℕ, List, [], length, Option, Ok, Err, IfOk, IfErr, IfSome};
+ghost use Rattle.std.specs.Prelude.{◌≡◌, ◌≤◌, ℕ, List, [], length, Option, None, Ok, Err, IfOk, IfErr, IfSome};
+ghost use Rattle.std.specs.Io.KnownBytes.{IsAtEnd};
 ghost use Rattle.scr_pcap.specs.Header.{HEADER_SIZE};
+ghost use Rattle.scr_pcap.specs.Records.{RECORDS};
 ghost use Rattle.scr_pcap.specs.State as pcap;
 ghost use Rattle.scr_pcap.specs.Taken.{GivesAtMost};
-ghost use Rattle.scr_pcapng.specs.Either.{IsBeginFault, IsCauseIn, IsClassicCause, left_behind, most_of, progress_in, progress_of, reading_of, records_of, rest_behind, rest_of};
+ghost use Rattle.scr_pcapng.specs.Either.{IsBeginFault, IsCauseIn, IsClassicCause, IsWithinLimits, left_behind, most_of, progress_in, progress_of, reading_of, records_of, rest_behind, rest_of};
 ghost use Rattle.scr_pcapng.specs.State.{Answers, IsCauseOf, IsCounted, ReadsOn, answer_of, faults_counted, progress_behind};
 
 use crate::error::AnyError;
@@ -31,6 +33,7 @@ impl AnyReader {
         ensures named { IfErr result IsBeginFault }
         ensures few { GivesAtMost HEADER_SIZE (S.left source.old) (S.left source.new) }
         ensures reach { IfOk result (λ reader. GivesAtMost (most_of reader) (S.left source.old) (left_behind reader (S.left source.new))) }
+        ensures within { IfOk result IsWithinLimits }
         ensures counts { S.faults source.new ≡ faults_counted result (S.faults source.old) }
     {
         let mut first = [0; 4];
@@ -60,6 +63,10 @@ impl AnyReader {
         ensures named { progress_of self.old ≡ Progress.Reading → IfErr result (IsCauseIn self.old) }
         ensures counted { progress_of self.old ≡ Progress.Reading → IsCounted (records_of self.old) (records_of self.new) frame.new result }
         ensures progress { progress_of self.old ≡ Progress.Reading → progress_of self.new ≡ progress_behind result }
+        ensures end { progress_of self.old ≡ Progress.Reading → result ≡ Ok None → IsAtEnd (S.left source.new) }
+
+        // A capture has at most 1,000,000 records, and at most 4,000,000 blocks.
+        ensures within { IsWithinLimits self.new }
 
         // However many calls are made, all that they took stays within a reader's reach.
         ensures reach { (start : Option (List ℕ)) → GivesAtMost (most_of self.old) start (left_behind self.old (S.left source.old))
@@ -87,6 +94,8 @@ fn next_classic<S: Source>(
     ensures named { progress_in reader.old.progress ≡ Progress.Reading → IfErr result IsClassicCause }
     ensures counted { progress_in reader.old.progress ≡ Progress.Reading → IsCounted reader.old.taken reader.new.taken frame.new result }
     ensures progress { progress_in reader.old.progress ≡ Progress.Reading → progress_in reader.new.progress ≡ progress_behind result }
+    ensures end { progress_in reader.old.progress ≡ Progress.Reading → result ≡ Ok None → IsAtEnd (S.left source.new) }
+    ensures within { reader.new.taken ≤ RECORDS }
     ensures reach { (start : Option (List ℕ)) → GivesAtMost (pcap.reach reader.old) start (S.left source.old)
         → GivesAtMost (pcap.reach reader.new) start (S.left source.new) }
     ensures counts { progress_in reader.old.progress ≡ Progress.Reading → S.faults source.new ≡ faults_counted result (S.faults source.old) }

@@ -1,5 +1,6 @@
 ghost use Rattle.std.specs.Prelude.{◌≡◌, ◌≢◌, ◌≤◌, ◌<◌, ◌+◌, ℕ, List, true, length, Option, Some, None, Ok, IfOk, IfErr, IfSome, OnErr};
 ghost use Rattle.std.specs.Io.KnownBytes.{IsAtEnd};
+ghost use Rattle.scr_pcap.specs.Records.{RECORDS};
 ghost use Rattle.scr_pcap.specs.Taken.{GivesAtMost};
 ghost use Rattle.scr_pcapng.specs.Blocks.{BLOCKS, is_total};
 ghost use Rattle.scr_pcapng.specs.Contents.{IsAccepted, captured_by, position_behind};
@@ -167,9 +168,11 @@ impl BlockReader {
         found
     }
 
-    // What a reader answers that found this.
+    // What a reader answers that found this. It has come no further than is taken.
     fn answer(&self, found: Option<RecordInfo>) -> Result<Option<RecordInfo>, AnyError>
-        ensures { result ≡ answer_with self.now.progress found }
+        ensures told { result ≡ answer_with self.now.progress found }
+        ensures few_packets { self.now.position.packets ≤ RECORDS }
+        ensures few_blocks { self.now.position.blocks ≤ BLOCKS }
     {
         match self.progress {
             Progress::Reading => Ok(found),
@@ -192,6 +195,9 @@ impl BlockReader {
         ensures counted { self.old.progress ≡ Progress.Reading
             → IsCounted self.old.position.packets self.new.position.packets frame.new result }
         ensures progress { self.old.progress ≡ Progress.Reading → self.new.progress ≡ progress_behind result }
+        ensures end { self.old.progress ≡ Progress.Reading → result ≡ Ok None → IsAtEnd (S.left source.new) }
+        ensures few_packets { self.new.position.packets ≤ RECORDS }
+        ensures few_blocks { self.new.position.blocks ≤ BLOCKS }
         ensures reach { (start : Option (List ℕ)) → GivesAtMost (reach self.old) start (left_of self.old (S.left source.old))
             → GivesAtMost (reach self.new) start (left_of self.new (S.left source.new)) }
         ensures counts { self.old.progress ≡ Progress.Reading → S.faults source.new ≡ faults_counted result (S.faults source.old) }

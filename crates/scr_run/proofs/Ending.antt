@@ -8,14 +8,19 @@ use Rattle.scr_base.specs.declared.sink.SinkError.{SinkError}
 use Rattle.scr_base.specs.declared.sink.SinkError.TheVariants as sink
 use Rattle.scr_base.specs.declared.out_of_memory.OutOfMemory as memory
 use Rattle.scr_pcap.specs.Records.{Record}
-use Rattle.scr_pcap.specs.Taken.{CountsReadFault}
-use Rattle.scr_pcap.specs.Reading.{IsReading}
 use Rattle.scr_pcap.specs.declared.error.CaptureError.{CaptureError}
 use Rattle.scr_pcap.specs.declared.error.CaptureError.TheVariants as capture
+use Rattle.scr_pcapng.specs.declared.error.AnyError.{AnyError}
+use Rattle.scr_pcapng.specs.declared.error.AnyError.TheVariants as any
+use Rattle.scr_pcapng.specs.declared.error.NgError.{NgError}
+use Rattle.scr_pcapng.specs.declared.error.NgError.TheVariants as blocks
+use Rattle.scr_pcapng.specs.Either.{reading_of}
+use Rattle.scr_pcapng.specs.Reading.{IsReading}
+use Rattle.scr_pcapng.specs.State.{IsCauseOf, faults_counted}
 use Rattle.scr_run.specs.declared.status.Status.{Status}
-use Rattle.scr_run.specs.declared.status.Status.TheVariants.{Done, Words, Capture, ReadFault, WriteFault, OutOfMemory, TooMany}
+use Rattle.scr_run.specs.declared.status.Status.TheVariants.{Done, Words, Capture, ReadFault, WriteFault, OutOfMemory, TooMany, Pcapng}
 use Rattle.scr_words.specs.declared.word_fault.WordFault.{WordFault}
-use Rattle.scr_run.specs.Asked.{status_of, asked_by, IsOfCapture}
+use Rattle.scr_run.specs.Asked.{status_of, status_of_classic, status_of_blocks, asked_by, IsOfCapture}
 use Rattle.scr_run.specs.Ends.{Ends, IsText, Stands, Writes, StopsWriting, BeginsWriting, reads_behind, writes_behind, IsWantsBehind, status_of_sink, IsRefusal, IsOutOfMemory, IsUnlessOutOfMemory, IsStop, StopsReading}
 
 -- what is known of a run of a part is known of the whole
@@ -32,6 +37,7 @@ module _ (Asked Asked' : Result (List ℕ) Status → Type 0) (Takes Takes' AtEn
   Stands-through (Words fault) (asked, same) = (more (Err (Words fault)) asked, same)
   Stands-through (Capture error) (asked, same) = (more (Err (Capture error)) asked, same)
   Stands-through (TooMany limit) (asked, same) = (more (Err (TooMany limit)) asked, same)
+  Stands-through (Pcapng error) (asked, same) = (more (Err (Pcapng error)) asked, same)
   Stands-through ReadFault (taken, same) = (takes taken, same)
   Stands-through WriteFault stands = stops_through stands
   Stands-through (OutOfMemory want) (inl same) = inl same
@@ -54,6 +60,7 @@ reads_none Asked AtEnd written old new failed_before failed Done stands same = s
 reads_none Asked AtEnd written old new failed_before failed (Words fault) stands same = same
 reads_none Asked AtEnd written old new failed_before failed (Capture error) stands same = same
 reads_none Asked AtEnd written old new failed_before failed (TooMany limit) stands same = same
+reads_none Asked AtEnd written old new failed_before failed (Pcapng error) stands same = same
 reads_none Asked AtEnd written old new failed_before failed ReadFault stands same = absurd stands.0
 reads_none Asked AtEnd written old new failed_before failed WriteFault stands same = same
 reads_none Asked AtEnd written old new failed_before failed (OutOfMemory want) stands same = same
@@ -116,6 +123,12 @@ Ends-stopped text left Takes AtEnd written faults wants out failed_before failed
   writes = refl;
   wants_behind = refl;
 }
+Ends-stopped text left Takes AtEnd written faults wants out failed_before failed (Pcapng error) takes stops = record {
+  stands = (record { reading = Err stops.why.fault; read = stops.why.read; told = ap (λ (s : Status). Err s) stops.why.told }, refl);
+  reads = stops.reads;
+  writes = refl;
+  wants_behind = refl;
+}
 Ends-stopped text left Takes AtEnd written faults wants out failed_before failed ReadFault takes stops = record {
   stands = (takes, refl);
   reads = stops.reads;
@@ -130,48 +143,86 @@ Ends-stopped text left Takes AtEnd written faults wants out failed_before failed
   wants_behind = inl refl;
 }
 
--- the status of a reader's fault
-IsStop-of : (left : Option (List ℕ)) (fault : CaptureError) → ((fault ≡ capture.ReadFault → ⊥) → IfSome left (λ bytes. IsReading bytes (Err fault)))
-    → IsStop left (status_of fault)
-IsStop-of left capture.ShortHeader has = record { fault = capture.ShortHeader; read = has (λ same. cc); told = refl }
-IsStop-of left capture.Magic has = record { fault = capture.Magic; read = has (λ same. cc); told = refl }
-IsStop-of left capture.Version has = record { fault = capture.Version; read = has (λ same. cc); told = refl }
-IsStop-of left capture.LinkType has = record { fault = capture.LinkType; read = has (λ same. cc); told = refl }
-IsStop-of left (capture.ShortRecord number) has = record { fault = capture.ShortRecord number; read = has (λ same. cc); told = refl }
-IsStop-of left (capture.LongRecord number length) has = record { fault = capture.LongRecord number length; read = has (λ same. cc); told = refl }
-IsStop-of left (capture.TooMany limit) has = record { fault = capture.TooMany limit; read = has (λ same. cc); told = refl }
-IsStop-of left capture.ReadFault has = tt
+-- the status of a reader's fault, where the capture has it
+stop-of_classic : (left : Option (List ℕ)) (fault : CaptureError) → reading_of left (Err (any.Classic fault)) → IsStop left (status_of_classic fault)
+stop-of_classic left capture.ShortHeader has = record { fault = any.Classic capture.ShortHeader; read = has; told = refl }
+stop-of_classic left capture.Magic has = record { fault = any.Classic capture.Magic; read = has; told = refl }
+stop-of_classic left capture.Version has = record { fault = any.Classic capture.Version; read = has; told = refl }
+stop-of_classic left capture.LinkType has = record { fault = any.Classic capture.LinkType; read = has; told = refl }
+stop-of_classic left (capture.ShortRecord number) has = record { fault = any.Classic (capture.ShortRecord number); read = has; told = refl }
+stop-of_classic left (capture.LongRecord number length) has = record { fault = any.Classic (capture.LongRecord number length); read = has; told = refl }
+stop-of_classic left (capture.TooMany limit) has = record { fault = any.Classic (capture.TooMany limit); read = has; told = refl }
+stop-of_classic left capture.ReadFault has = tt
 
-not_failed : {T : Type 0} (fault : CaptureError) → (fault ≡ capture.ReadFault → ⊥) → ◌≡◌ {A = Result T CaptureError} (Err fault) (Err capture.ReadFault) → ⊥
-not_failed fault other same = other cc
+stop-of_blocks : (left : Option (List ℕ)) (fault : NgError) → reading_of left (Err (any.Ng fault)) → IsStop left (status_of_blocks fault)
+stop-of_blocks left (blocks.Cut block) has = record { fault = any.Ng (blocks.Cut block); read = has; told = refl }
+stop-of_blocks left (blocks.Mark block) has = record { fault = any.Ng (blocks.Mark block); read = has; told = refl }
+stop-of_blocks left (blocks.Length block) has = record { fault = any.Ng (blocks.Length block); read = has; told = refl }
+stop-of_blocks left (blocks.Version block) has = record { fault = any.Ng (blocks.Version block); read = has; told = refl }
+stop-of_blocks left (blocks.Resolution block) has = record { fault = any.Ng (blocks.Resolution block); read = has; told = refl }
+stop-of_blocks left (blocks.Interface block) has = record { fault = any.Ng (blocks.Interface block); read = has; told = refl }
+stop-of_blocks left (blocks.Captured block length) has = record { fault = any.Ng (blocks.Captured block length); read = has; told = refl }
+stop-of_blocks left (blocks.LinkType block) has = record { fault = any.Ng (blocks.LinkType block); read = has; told = refl }
+stop-of_blocks left (blocks.TooMany limit) has = record { fault = any.Ng (blocks.TooMany limit); read = has; told = refl }
+stop-of_blocks left (blocks.TooManyBlocks limit) has = record { fault = any.Ng (blocks.TooManyBlocks limit); read = has; told = refl }
 
-reads_of : {S T : Type 0} (faults : S → ℕ) (old new : S) (before : ℕ) (fault : CaptureError) → faults old ≡ before
-    → CountsReadFault {T = T} faults old new (Err fault) → faults new ≡ reads_behind (status_of fault) before
-reads_of {S} {T} faults old new before capture.ShortHeader same counts = counts.other (not_failed {T = T} capture.ShortHeader (λ is. cc)) ∙ same
-reads_of {S} {T} faults old new before capture.Magic same counts = counts.other (not_failed {T = T} capture.Magic (λ is. cc)) ∙ same
-reads_of {S} {T} faults old new before capture.Version same counts = counts.other (not_failed {T = T} capture.Version (λ is. cc)) ∙ same
-reads_of {S} {T} faults old new before capture.LinkType same counts = counts.other (not_failed {T = T} capture.LinkType (λ is. cc)) ∙ same
-reads_of {S} {T} faults old new before (capture.ShortRecord number) same counts = counts.other (not_failed {T = T} (capture.ShortRecord number) (λ is. cc)) ∙ same
-reads_of {S} {T} faults old new before (capture.LongRecord number length) same counts = counts.other (not_failed {T = T} (capture.LongRecord number length) (λ is. cc)) ∙ same
-reads_of {S} {T} faults old new before (capture.TooMany limit) same counts = counts.other (not_failed {T = T} (capture.TooMany limit) (λ is. cc)) ∙ same
-reads_of {S} {T} faults old new before capture.ReadFault same counts = counts.failed refl ∙ ap counted same
+IsStop-of : (left : Option (List ℕ)) (error : AnyError) → IsCauseOf (reading_of left) error → IsStop left (status_of error)
+IsStop-of left (any.Classic fault) has = stop-of_classic left fault has
+IsStop-of left (any.Ng fault) has = stop-of_blocks left fault has
+IsStop-of left any.ReadFault has = tt
+IsStop-of left (any.OutOfMemory want) has = tt
 
-pub StopsReading-from : {S T : Type 0} (left : Option (List ℕ)) (faults : S → ℕ) (old new : S) (before : ℕ) (fault : CaptureError) (status : Status)
-    → CountsReadFault {T = T} faults old new (Err fault) → faults old ≡ before
-    → ((fault ≡ capture.ReadFault → ⊥) → IfSome left (λ bytes. IsReading bytes (Err fault))) → status ≡ status_of fault
-    → StopsReading left before (faults new) status
-StopsReading-from {S} {T} left faults old new before fault status counts same has is =
-    subst (StopsReading left before (faults new)) (sym is) (record { why = IsStop-of left fault has; reads = reads_of {T = T} faults old new before fault same counts })
+-- a fault stops a run in one of three ways, whatever the capture is
+stop-of_any : (error : AnyError) → IsStop None (status_of error)
+stop-of_any (any.Classic fault) = stop-of_classic None fault tt
+stop-of_any (any.Ng fault) = stop-of_blocks None fault tt
+stop-of_any any.ReadFault = tt
+stop-of_any (any.OutOfMemory want) = tt
+
+-- how often reading failed
+reads-of_classic : (fault : CaptureError) (before now : ℕ) → (fault ≡ capture.ReadFault → ⊥) → now ≡ before → now ≡ reads_behind (status_of_classic fault) before
+reads-of_classic capture.ShortHeader before now named same = same
+reads-of_classic capture.Magic before now named same = same
+reads-of_classic capture.Version before now named same = same
+reads-of_classic capture.LinkType before now named same = same
+reads-of_classic (capture.ShortRecord number) before now named same = same
+reads-of_classic (capture.LongRecord number length) before now named same = same
+reads-of_classic (capture.TooMany limit) before now named same = same
+reads-of_classic capture.ReadFault before now named same = absurd (named refl)
+
+reads-of_blocks : (fault : NgError) (before now : ℕ) → now ≡ before → now ≡ reads_behind (status_of_blocks fault) before
+reads-of_blocks (blocks.Cut block) before now same = same
+reads-of_blocks (blocks.Mark block) before now same = same
+reads-of_blocks (blocks.Length block) before now same = same
+reads-of_blocks (blocks.Version block) before now same = same
+reads-of_blocks (blocks.Resolution block) before now same = same
+reads-of_blocks (blocks.Interface block) before now same = same
+reads-of_blocks (blocks.Captured block length) before now same = same
+reads-of_blocks (blocks.LinkType block) before now same = same
+reads-of_blocks (blocks.TooMany limit) before now same = same
+reads-of_blocks (blocks.TooManyBlocks limit) before now same = same
+
+reads_of : (T : Type 0) (error : AnyError) (before now : ℕ) → (error ≡ any.Classic capture.ReadFault → ⊥) → now ≡ faults_counted {T = T} (Err error) before
+    → now ≡ reads_behind (status_of error) before
+reads_of T (any.Classic fault) before now named counts =
+    reads-of_classic fault before now (λ is. named (ap (λ (f : CaptureError). any.Classic f) is)) counts
+reads_of T (any.Ng fault) before now named counts = reads-of_blocks fault before now counts
+reads_of T any.ReadFault before now named counts = counts
+reads_of T (any.OutOfMemory want) before now named counts = counts
+
+pub StopsReading-from : (T : Type 0) (left : Option (List ℕ)) (before middle now : ℕ) (error : AnyError) (status : Status)
+    → now ≡ faults_counted {T = T} (Err error) middle → middle ≡ before → (error ≡ any.Classic capture.ReadFault → ⊥) → IsCauseOf (reading_of left) error
+    → status ≡ status_of error → StopsReading left before now status
+StopsReading-from T left before middle now error status counts same named cause is =
+    subst (StopsReading left before now) (sym is) (record {
+      why = IsStop-of left error cause;
+      reads = reads_of T error before now named (subst (λ (n : ℕ). now ≡ faults_counted {T = T} (Err error) n) same counts);
+    })
 
 -- no memory for it
 pub StopsReading-want : (left : Option (List ℕ)) (before now : ℕ) (want : memory.OutOfMemory) (status : Status) → now ≡ before → status ≡ OutOfMemory want
     → StopsReading left before now status
 StopsReading-want left before now want status same is = subst (StopsReading left before now) (sym is) (record { why = tt; reads = same })
-
--- a fact with a premise, where the premise holds
-pub given-premise : (left : Option (List ℕ)) (P : Type 0) (Q : List ℕ → Type 0) → IfSome left (λ bytes. P → Q bytes) → P → IfSome left Q
-given-premise None P Q has premise = tt
-given-premise (Some bytes) P Q has premise = has premise
 
 -- what stands behind any run: nothing was written, or a front of what is asked for
 front_of : (before now : Option (List ℕ)) (text : List ℕ) → Appends before now text → AppendsPrefix before now text
@@ -192,6 +243,7 @@ module _ (Asked : Result (List ℕ) Status → Type 0) (Takes AtEnd : Type 0) {O
   front-from (Words fault) stands = inl stands.1
   front-from (Capture error) stands = inl stands.1
   front-from (TooMany limit) stands = inl stands.1
+  front-from (Pcapng error) stands = inl stands.1
   front-from ReadFault stands = inl stands.1
   front-from WriteFault stands = inr (begins stands)
   front-from (OutOfMemory want) (inl same) = inl same
@@ -211,42 +263,36 @@ module _ (Asked : Result (List ℕ) Status → Type 0) (Takes AtEnd : Type 0) {O
   status-is (Words fault) ends = inl (only (Err (Words fault)) ends.stands.0)
   status-is (Capture error) ends = inl (only (Err (Capture error)) ends.stands.0)
   status-is (TooMany limit) ends = inl (only (Err (TooMany limit)) ends.stands.0)
+  status-is (Pcapng error) ends = inl (only (Err (Pcapng error)) ends.stands.0)
   status-is ReadFault ends = absurd (calm ends.stands.0 ends.reads)
   status-is WriteFault ends = absurd (calm_out (sym (only (Ok ends.stands.text) ends.stands.asked)) ends.writes)
   status-is (OutOfMemory want) ends = inr (want, refl)
 
 -- a capture has one reading, so that one status is asked for
-pub IsOfCapture-by : (text : List Record → List ℕ) (bytes : List ℕ) (left : Option (List ℕ)) (reading : Result (List Record) CaptureError) (asked : Result (List ℕ) Status)
-    → ((one other : Result (List Record) CaptureError) → IsReading bytes one → IsReading bytes other → one ≡ other)
+pub IsOfCapture-by : (text : List Record → List ℕ) (bytes : List ℕ) (left : Option (List ℕ)) (reading : Result (List Record) AnyError) (asked : Result (List ℕ) Status)
+    → ((one other : Result (List Record) AnyError) → IsReading bytes one → IsReading bytes other → one ≡ other)
     → left ≡ Some bytes → IsReading bytes reading → IsOfCapture text left asked → asked ≡ asked_by text reading
 IsOfCapture-by text bytes left reading asked same is read of =
     let read' : IsReading bytes of.reading = subst (λ (l : Option (List ℕ)). IfSome l (λ bytes. IsReading bytes of.reading)) is of.read in
     of.told ∙ ap (asked_by text) (same of.reading reading read' read)
 
 -- the status that a reading asks for, whatever the text
-abbrev pub status_read : Result (List Record) CaptureError → Status
+abbrev pub status_read : Result (List Record) AnyError → Status
 status_read (Ok records) = Done
 status_read (Err fault) = status_of fault
 
-pub status_asked-by : (text : List Record → List ℕ) (reading : Result (List Record) CaptureError) → status_asked (asked_by text reading) ≡ status_read reading
+pub status_asked-by : (text : List Record → List ℕ) (reading : Result (List Record) AnyError) → status_asked (asked_by text reading) ≡ status_read reading
 status_asked-by text (Ok records) = refl
 status_asked-by text (Err fault) = refl
 
-no_fault-done : (error : CaptureError) → status_of error ≡ Done → ⊥
-no_fault-done capture.ShortHeader same = cc
-no_fault-done capture.Magic same = cc
-no_fault-done capture.Version same = cc
-no_fault-done capture.LinkType same = cc
-no_fault-done (capture.ShortRecord number) same = cc
-no_fault-done (capture.LongRecord number length) same = cc
-no_fault-done (capture.TooMany limit) same = cc
-no_fault-done capture.ReadFault same = cc
+no_fault-done : (error : AnyError) → status_of error ≡ Done → ⊥
+no_fault-done error same = subst (IsStop None) same (stop-of_any error)
 
 -- where the reading of a capture is asked for: a fault is answered where no read failed, and the report is written where no
 -- write failed either
 module _ (Asked : Result (List ℕ) Status → Type 0) (Takes AtEnd : Type 0) {O : Type 0} (written : O → Option (List ℕ)) (faults wants : O → ℕ) (old new : O)
     (failed_before failed : ℕ) (status : Status) (calm : failed ≡ counted failed_before → ⊥) where
-  pub malformed : (error : CaptureError) → ((asked : Result (List ℕ) Status) → Asked asked → status_asked asked ≡ status_read (Err error))
+  pub malformed : (error : AnyError) → ((asked : Result (List ℕ) Status) → Asked asked → status_asked asked ≡ status_read (Err error))
       → Ends Asked Takes AtEnd written failed_before failed faults wants old new status → IsUnlessOutOfMemory status (status_of error)
   malformed error only ends =
       status-is Asked Takes AtEnd written faults wants old new failed_before failed (status_of error) only (λ takes. calm)
@@ -258,27 +304,20 @@ module _ (Asked : Result (List ℕ) Status → Type 0) (Takes AtEnd : Type 0) {O
   complete records only calm_out ends =
       status-is Asked Takes AtEnd written faults wants old new failed_before failed Done only (λ takes. calm) (λ done. calm_out) status ends
 
-pub capture-asked : (text : List Record → List ℕ) (bytes : List ℕ) (left : Option (List ℕ)) (reading : Result (List Record) CaptureError)
-    → ((one other : Result (List Record) CaptureError) → IsReading bytes one → IsReading bytes other → one ≡ other)
+pub capture-asked : (text : List Record → List ℕ) (bytes : List ℕ) (left : Option (List ℕ)) (reading : Result (List Record) AnyError)
+    → ((one other : Result (List Record) AnyError) → IsReading bytes one → IsReading bytes other → one ≡ other)
     → left ≡ Some bytes → IsReading bytes reading → (asked : Result (List ℕ) Status) → IsOfCapture text left asked → status_asked asked ≡ status_read reading
 capture-asked text bytes left reading same is read asked of =
     ap status_asked (IsOfCapture-by text bytes left reading asked same is read of) ∙ status_asked-by text reading
 
 -- no capture asks for the status of words
-no_fault-words : (fault : WordFault) (error : CaptureError) → Words fault ≡ status_of error → ⊥
-no_fault-words fault capture.ShortHeader same = cc
-no_fault-words fault capture.Magic same = cc
-no_fault-words fault capture.Version same = cc
-no_fault-words fault capture.LinkType same = cc
-no_fault-words fault (capture.ShortRecord number) same = cc
-no_fault-words fault (capture.LongRecord number length) same = cc
-no_fault-words fault (capture.TooMany limit) same = cc
-no_fault-words fault capture.ReadFault same = cc
+no_fault-words : (fault : WordFault) (error : AnyError) → Words fault ≡ status_of error → ⊥
+no_fault-words fault error same = subst (IsStop None) (sym same) (stop-of_any error)
 
 pub no-words : (text : List Record → List ℕ) (left : Option (List ℕ)) (fault : WordFault) → IsOfCapture text left (Err (Words fault)) → ⊥
 no-words text left fault of = refused of.reading of.told
   where
-    refused : (reading : Result (List Record) CaptureError) → Err (Words fault) ≡ asked_by text reading → ⊥
+    refused : (reading : Result (List Record) AnyError) → Err (Words fault) ≡ asked_by text reading → ⊥
     refused (Ok records) same = cc
     refused (Err error) same = no_fault-words fault error cc
 
@@ -293,6 +332,7 @@ module _ (Asked : Result (List ℕ) Status → Type 0) (Takes AtEnd : Type 0) {O
   shown_stands (Words fault) done refused read write want = refused tt
   shown_stands (Capture error) done refused read write want = refused tt
   shown_stands (TooMany limit) done refused read write want = refused tt
+  shown_stands (Pcapng error) done refused read write want = refused tt
   shown_stands ReadFault done refused read write want = read refl
   shown_stands WriteFault done refused read write want = write refl
   shown_stands (OutOfMemory memory) done refused read write want = want (memory, refl)

@@ -1,10 +1,10 @@
 -- How a run over a capture that is made up ends: a text is asked for, and no read fails.
 use Rattle.std.proofs.Common.{◌≡◌, ℕ, List, Option, Some, Result, Ok, refl, arith}
 use Rattle.scr_pcap.specs.Records.{Record}
-use Rattle.scr_pcap.specs.Reading.{IsReading}
-use Rattle.scr_pcap.specs.declared.error.CaptureError.{CaptureError}
+use Rattle.scr_pcapng.specs.Reading.{IsReading}
+use Rattle.scr_pcapng.specs.declared.error.AnyError.{AnyError}
 use Rattle.scr_run.specs.declared.status.Status.{Status}
-use Rattle.scr_run.specs.declared.status.Status.TheVariants.{Done, Words, Capture, ReadFault, WriteFault, OutOfMemory, TooMany}
+use Rattle.scr_run.specs.declared.status.Status.TheVariants.{Done, Words, Capture, ReadFault, WriteFault, OutOfMemory, TooMany, Pcapng}
 use Rattle.scr_run.specs.Asked.{IsOfCapture}
 use Rattle.scr_run.specs.Ends.{Ends, IsText, Stands}
 use Rattle.scr_run.proofs.Ending.{Ends-through, Ends-behind, IsOfCapture-by}
@@ -17,12 +17,13 @@ module _ (text : List Record → List ℕ) (bytes : List ℕ) (left : Option (Li
   no_fault failed (Words fault) ends = ends.stands
   no_fault failed (Capture error) ends = ends.stands
   no_fault failed (TooMany limit) ends = ends.stands
+  no_fault failed (Pcapng error) ends = ends.stands
   no_fault failed ReadFault ends = let rose = ends.reads in absurd (omega (arith, rose))
   no_fault failed WriteFault ends = ends.stands
   no_fault failed (OutOfMemory want) ends = ends.stands
 
   pub Ends-of_load : (Asked : Result (List ℕ) Status → Type 0) (Takes End : Type 0) (failed : ℕ) (status : Status)
-      → ((one other : Result (List Record) CaptureError) → IsReading bytes one → IsReading bytes other → one ≡ other)
+      → ((one other : Result (List Record) AnyError) → IsReading bytes one → IsReading bytes other → one ≡ other)
       → left ≡ Some bytes → IsReading bytes (Ok records) → Asked (Ok (text records)) → End
       → Ends (IsOfCapture text left) (Unit {0}) AtEnd written 0 0 faults wants old new status
       → Ends Asked Takes End written failed failed faults wants old new status

@@ -3,8 +3,8 @@ use Rattle.std.proofs.Common.{◌≡◌, inl, inr, ℕ, Bool, true, false, List,
 use Rattle.std.specs.Option.{option_map_or}
 use Rattle.scr_pcap.specs.Generated.{generated_records}
 use Rattle.scr_pcap.specs.Records.{Record}
-use Rattle.scr_pcap.specs.Reading.{IsReading}
-use Rattle.scr_pcap.specs.declared.error.CaptureError.{CaptureError}
+use Rattle.scr_pcapng.specs.Reading.{IsReading}
+use Rattle.scr_pcapng.specs.declared.error.AnyError.{AnyError}
 use Rattle.scr_words.specs.declared.settings.Command.{Command}
 use Rattle.scr_words.specs.declared.settings.Command.TheVariants.{Run, Plain, Load}
 use Rattle.scr_words.specs.declared.settings.RunSettings.{RunSettings}
@@ -67,8 +67,8 @@ module _ (words : List (List ℕ)) (left : Option (List ℕ)) (asked : Result (L
       ap status_asked (by_load (text_for run.settings) (generated_records run.settings.start run.settings.frames run.settings.hosts) left run.settings.command asked load run.told)
 
   -- where they take a capture, what its reading asks for is
-  pub asked-capture : (bytes : List ℕ) (reading : Result (List Record) CaptureError)
-      → ((one other : Result (List Record) CaptureError) → IsReading bytes one → IsReading bytes other → one ≡ other)
+  pub asked-capture : (bytes : List ℕ) (reading : Result (List Record) AnyError)
+      → ((one other : Result (List Record) AnyError) → IsReading bytes one → IsReading bytes other → one ≡ other)
       → TakeCapture words → left ≡ Some bytes → IsReading bytes reading → IsAsked words left asked → status_asked asked ≡ status_read reading
   asked-capture bytes reading same takes is read (inl nothing) = absurd (AreAccepted-not_refused words takes.settings nothing.fault takes.accepted nothing.refused)
   asked-capture bytes reading same takes is read (inr run) =

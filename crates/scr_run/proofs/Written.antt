@@ -2,7 +2,7 @@
 use Rattle.std.proofs.Common.{◌≡◌, ℕ, List, Option, Ok, IfSome, ap}
 use Rattle.scr_base.specs.declared.row.Row.{Row}
 use Rattle.scr_pcap.specs.Records.{Record}
-use Rattle.scr_pcap.specs.Reading.{IsReading}
+use Rattle.scr_pcapng.specs.Reading.{IsReading}
 use Rattle.scr_plan.specs.declared.counting.CoreCounts.{CoreCounts}
 use Rattle.scr_plan.specs.declared.given.Given.{Given}
 use Rattle.scr_plan.specs.Link.{Link}

@@ -7,12 +7,12 @@ use Rattle.scr_base.specs.Streams.{AppendsPrefix, StopsWithin}
 use Rattle.scr_base.specs.declared.out_of_memory.OutOfMemory as memory
 use Rattle.scr_base.specs.declared.sink.SinkError.{SinkError}
 use Rattle.scr_base.specs.declared.sink.SinkError.TheVariants as sink
-use Rattle.scr_pcap.specs.Reading.{IsReading}
-use Rattle.scr_pcap.specs.declared.error.CaptureError.{CaptureError}
+use Rattle.scr_pcapng.specs.Reading.{IsReading}
+use Rattle.scr_pcapng.specs.declared.error.AnyError.{AnyError}
 use Rattle.scr_words.specs.declared.reading.WordsError.{WordsError}
 use Rattle.scr_words.specs.declared.reading.WordsError.TheVariants as words
 use Rattle.scr_run.specs.declared.status.Status.{Status}
-use Rattle.scr_run.specs.declared.status.Status.TheVariants.{Done, Words, Capture, ReadFault, WriteFault, OutOfMemory, TooMany}
+use Rattle.scr_run.specs.declared.status.Status.TheVariants.{Done, Words, Capture, ReadFault, WriteFault, OutOfMemory, TooMany, Pcapng}
 use Rattle.scr_run.specs.Asked.{status_of}
 
 -- the status of a sink's error
@@ -42,6 +42,7 @@ abbrev pub IsRefusal : Status → Type 0
 IsRefusal (Words fault) = Unit {0}
 IsRefusal (Capture error) = Unit {0}
 IsRefusal (TooMany limit) = Unit {0}
+IsRefusal (Pcapng error) = Unit {0}
 IsRefusal Done = ⊥
 IsRefusal ReadFault = ⊥
 IsRefusal WriteFault = ⊥
@@ -56,6 +57,7 @@ reads_behind (Capture error) faults = faults
 reads_behind WriteFault faults = faults
 reads_behind (OutOfMemory want) faults = faults
 reads_behind (TooMany limit) faults = faults
+reads_behind (Pcapng error) faults = faults
 
 -- how often writing has failed, the same way
 abbrev pub writes_behind : Status → ℕ → ℕ
@@ -66,6 +68,7 @@ writes_behind (Capture error) faults = faults
 writes_behind ReadFault faults = faults
 writes_behind (OutOfMemory want) faults = faults
 writes_behind (TooMany limit) faults = faults
+writes_behind (Pcapng error) faults = faults
 
 -- how often the sink wanted memory in vain: once more at most, and only where memory ran out
 abbrev pub IsWantsBehind : Status → (before now : ℕ) → Type 0
@@ -76,6 +79,7 @@ IsWantsBehind (Capture error) before now = now ≡ before
 IsWantsBehind ReadFault before now = now ≡ before
 IsWantsBehind WriteFault before now = now ≡ before
 IsWantsBehind (TooMany limit) before now = now ≡ before
+IsWantsBehind (Pcapng error) before now = now ≡ before
 
 -- this text, and nothing else, is asked for
 abbrev pub IsText : List ℕ → Result (List ℕ) Status → Type 0
@@ -112,6 +116,7 @@ module _ (Asked : Result (List ℕ) Status → Type 0) (Takes AtEnd : Type 0) {O
   Stands old new (Words fault) = Asked (Err (Words fault)) × (new ≡ old)
   Stands old new (Capture error) = Asked (Err (Capture error)) × (new ≡ old)
   Stands old new (TooMany limit) = Asked (Err (TooMany limit)) × (new ≡ old)
+  Stands old new (Pcapng error) = Asked (Err (Pcapng error)) × (new ≡ old)
   Stands old new ReadFault = Takes × (new ≡ old)
   Stands old new WriteFault = StopsWriting Asked AtEnd (written old) (written new)
   Stands old new (OutOfMemory want) = (new ≡ old) ⊎ StopsWriting Asked AtEnd (written old) (written new)
@@ -125,7 +130,7 @@ module _ (Asked : Result (List ℕ) Status → Type 0) (Takes AtEnd : Type 0) {O
 
 -- the capture whose bytes were left has a fault of this status
 pub record HasFault (left : Option (List ℕ)) (status : Status) : Type 0 where
-  pub fault : CaptureError
+  pub fault : AnyError
   pub read : IfSome left (λ bytes. IsReading bytes (Err fault))
   pub told : status ≡ status_of fault
 
@@ -135,6 +140,7 @@ IsStop left ReadFault = Unit {0}
 IsStop left (OutOfMemory want) = Unit {0}
 IsStop left (Capture error) = HasFault left (Capture error)
 IsStop left (TooMany limit) = HasFault left (TooMany limit)
+IsStop left (Pcapng error) = HasFault left (Pcapng error)
 IsStop left Done = ⊥
 IsStop left (Words fault) = ⊥
 IsStop left WriteFault = ⊥

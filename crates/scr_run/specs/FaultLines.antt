@@ -5,8 +5,10 @@ use Rattle.scr_base.specs.Streams.{WritesText}
 use Rattle.scr_base.specs.declared.sink.SinkError.{SinkError}
 use Rattle.scr_pcap.specs.declared.error.CaptureError.{CaptureError}
 use Rattle.scr_pcap.specs.declared.error.CaptureError.TheVariants as capture
+use Rattle.scr_pcapng.specs.declared.error.NgError.{NgError}
+use Rattle.scr_pcapng.specs.declared.error.NgError.TheVariants as blocks
 use Rattle.scr_run.specs.declared.status.Status.{Status}
-use Rattle.scr_run.specs.declared.status.Status.TheVariants.{Done, Words, Capture, ReadFault, WriteFault, OutOfMemory, TooMany}
+use Rattle.scr_run.specs.declared.status.Status.TheVariants.{Done, Words, Capture, ReadFault, WriteFault, OutOfMemory, TooMany, Pcapng}
 use Rattle.scr_words.specs.WordLines.{word_line}
 
 -- the code and the line of a run that had no memory
@@ -24,6 +26,7 @@ code_of ReadFault = 3
 code_of WriteFault = 4
 code_of (OutOfMemory want) = want_code
 code_of (TooMany limit) = 6
+code_of (Pcapng error) = 7
 
 abbrev pub short_record_line : ℕ → List ℕ
 short_record_line number = codes "scr: record " ++ decimal number ++ codes ": ShortRecord\n"
@@ -46,6 +49,29 @@ capture_line (capture.LongRecord number length) = long_record_line number length
 capture_line (capture.TooMany limit) = too_many_line limit
 capture_line capture.ReadFault = codes "scr: read fault\n"
 
+-- the line of a fault of a block: its number, and the cause
+abbrev pub block_line : (block : ℕ) → (cause : List ℕ) → List ℕ
+block_line block cause = codes "scr: block " ++ (decimal block ++ (codes ": " ++ (cause ++ codes "\n")))
+
+abbrev pub captured_line : (block length : ℕ) → List ℕ
+captured_line block length = codes "scr: block " ++ (decimal block ++ (codes ": Captured " ++ (decimal length ++ codes "\n")))
+
+abbrev pub too_many_blocks_line : ℕ → List ℕ
+too_many_blocks_line limit = codes "scr: more than " ++ decimal limit ++ codes " blocks\n"
+
+-- the line of a malformed capture in blocks; too many packets are no fault of its form
+abbrev pub blocks_line : NgError → List ℕ
+blocks_line (blocks.Cut block) = block_line block (codes "Cut")
+blocks_line (blocks.Mark block) = block_line block (codes "Mark")
+blocks_line (blocks.Length block) = block_line block (codes "Length")
+blocks_line (blocks.Version block) = block_line block (codes "Version")
+blocks_line (blocks.Resolution block) = block_line block (codes "Resolution")
+blocks_line (blocks.Interface block) = block_line block (codes "Interface")
+blocks_line (blocks.Captured block length) = captured_line block length
+blocks_line (blocks.LinkType block) = block_line block (codes "LinkType")
+blocks_line (blocks.TooMany limit) = too_many_line limit
+blocks_line (blocks.TooManyBlocks limit) = too_many_blocks_line limit
+
 -- the line of a status; a run that is done writes none
 abbrev pub fault_line : Status → List ℕ
 fault_line Done = []
@@ -55,6 +81,7 @@ fault_line ReadFault = codes "scr: read fault\n"
 fault_line WriteFault = codes "scr: write fault\n"
 fault_line (OutOfMemory want) = want_line
 fault_line (TooMany limit) = too_many_line limit
+fault_line (Pcapng error) = blocks_line error
 
 -- a line was written, or an error of the sink stopped its writing: some answer tells what the sink gained, and its counts
 pub record IsTold {O : Type 0} (written : O → Option (List ℕ)) (faults wants : O → ℕ) (old new : O) (line : List ℕ) : Type 0 where

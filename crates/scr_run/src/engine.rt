@@ -3,8 +3,8 @@ ghost use Rattle.std.specs.Io.KnownBytes.{IsAtEnd};
 ghost use Rattle.scr_base.specs.Causes.{counted};
 ghost use Rattle.scr_frame.specs.Fields.{fields};
 ghost use Rattle.scr_pcap.specs.Records.{Record, RECORDS, CAPTURED};
-ghost use Rattle.scr_pcap.specs.Reading.{IsReading};
-ghost use Rattle.scr_pcap.specs.declared.error.CaptureError.{CaptureError};
+ghost use Rattle.scr_pcapng.specs.Reading.{IsReading};
+ghost use Rattle.scr_pcapng.specs.declared.error.AnyError.{AnyError};
 ghost use Rattle.scr_words.specs.declared.word_fault.WordFault.{WordFault};
 ghost use Rattle.std.specs.List.{range_with_len};
 ghost use Rattle.scr_plan.specs.Counts.{delivered_count, kept_count, plan_counts};
@@ -20,7 +20,8 @@ use crate::names::names_of;
 use crate::status::Status;
 use scr_base::{OutOfMemory, Row, Sink, Source};
 use scr_frame::parse;
-use scr_pcap::{FrameBuf, Reader};
+use scr_pcap::FrameBuf;
+use scr_pcapng::AnyReader;
 use scr_plan::{CoreCounts, RunPlan};
 use scr_program::Program;
 use scr_replica::{Gathered, run_phases};
@@ -67,7 +68,7 @@ pub fn run_engine<P: Program, S: Source, O: Sink>(
     ensures read_fault { result ≡ Status.ReadFault → out.new ≡ out.old }
 
     // A malformed capture is answered as such where no read failed.
-    ensures malformed { (bytes : List ℕ) (error : CaptureError) → S.left capture.old ≡ Some bytes → IsReading bytes (Err error)
+    ensures malformed { (bytes : List ℕ) (error : AnyError) → S.left capture.old ≡ Some bytes → IsReading bytes (Err error)
         → S.faults capture.new ≢ counted (S.faults capture.old) → IsUnlessOutOfMemory result (status_of error) }
 
     // Over a valid capture, with no failure of a stream, the report is written.
@@ -153,7 +154,7 @@ fn rows_read<P: Program, S: Source>(
     ensures stop { IfErr result (StopsReading (S.left capture.old) (S.faults capture.old) (S.faults capture.new)) }
 {
     let mut frame = FrameBuf::make(alloc)?;
-    let mut reader = Reader::begin(capture)?;
+    let mut reader = AnyReader::begin(alloc, capture)?;
     let mut rows = Vec::new(alloc);
     while let Some(info) = reader.next(capture, &mut frame)? {
         put_row::<P>(&mut rows, settings, frame.bytes(), info.time)?;

@@ -1,11 +1,12 @@
 ghost use Rattle.std.specs.Prelude.{◌≡◌};
 ghost use Rattle.scr_base.specs.Causes.{CountsError};
 ghost use Rattle.scr_base.specs.Streams.{WritesText, BatchesText};
-ghost use Rattle.scr_run.specs.FaultLines.{short_record_line, long_record_line, capture_line, too_many_line, fault_line, want_code, want_line, IsTold};
+ghost use Rattle.scr_run.specs.FaultLines.{block_line, blocks_line, captured_line, short_record_line, long_record_line, capture_line, too_many_blocks_line, too_many_line, fault_line, want_code, want_line, IsTold};
 
 use crate::status::{Status, WANT_CODE};
 use scr_base::{Batch, Piece, Sink, SinkError, put_all};
 use scr_pcap::CaptureError;
+use scr_pcapng::NgError;
 use scr_words::put_word_line;
 
 const WANT_LINE: &[u8] = b"scr: out of memory\n";
@@ -46,6 +47,7 @@ fn put_fault_line<E: Sink>(batch: &mut Batch, err: &mut E, status: &Status) -> R
         Status::WriteFault => batch.put(err, b"scr: write fault\n"),
         Status::OutOfMemory(_) => batch.put(err, WANT_LINE),
         Status::TooMany { limit } => put_too_many_line(batch, err, *limit),
+        Status::Pcapng(error) => put_blocks_line(batch, err, error),
     }
 }
 
@@ -116,6 +118,88 @@ fn put_too_many_line<E: Sink>(batch: &mut Batch, err: &mut E, limit: u32) -> Res
             Piece::Text(b"scr: more than "),
             Piece::Number(u64::from(limit)),
             Piece::Text(b" records\n"),
+        ],
+    )
+}
+
+fn put_blocks_line<E: Sink>(
+    batch: &mut Batch,
+    err: &mut E,
+    error: &NgError,
+) -> Result<(), SinkError>
+    ensures text { BatchesText (E.written err.old) (E.written err.new) batch.old batch.new result (blocks_line error.now) }
+    ensures counts { CountsError E.faults E.wants err.old err.new result }
+{
+    match error {
+        NgError::Cut { block } => put_block_line(batch, err, *block, b"Cut"),
+        NgError::Mark { block } => put_block_line(batch, err, *block, b"Mark"),
+        NgError::Length { block } => put_block_line(batch, err, *block, b"Length"),
+        NgError::Version { block } => put_block_line(batch, err, *block, b"Version"),
+        NgError::Resolution { block } => put_block_line(batch, err, *block, b"Resolution"),
+        NgError::Interface { block } => put_block_line(batch, err, *block, b"Interface"),
+        NgError::Captured { block, length } => put_captured(batch, err, *block, *length),
+        NgError::LinkType { block } => put_block_line(batch, err, *block, b"LinkType"),
+        NgError::TooMany { limit } => put_too_many_line(batch, err, *limit),
+        NgError::TooManyBlocks { limit } => put_too_many_blocks_line(batch, err, *limit),
+    }
+}
+
+fn put_block_line<E: Sink>(
+    batch: &mut Batch,
+    err: &mut E,
+    block: u32,
+    cause: &[u8],
+) -> Result<(), SinkError>
+    ensures text { BatchesText (E.written err.old) (E.written err.new) batch.old batch.new result (block_line block cause.now) }
+    ensures counts { CountsError E.faults E.wants err.old err.new result }
+{
+    batch.put_pieces(
+        err,
+        &[
+            Piece::Text(b"scr: block "),
+            Piece::Number(u64::from(block)),
+            Piece::Text(b": "),
+            Piece::Text(cause),
+            Piece::Text(b"\n"),
+        ],
+    )
+}
+
+fn put_captured<E: Sink>(
+    batch: &mut Batch,
+    err: &mut E,
+    block: u32,
+    length: u32,
+) -> Result<(), SinkError>
+    ensures text { BatchesText (E.written err.old) (E.written err.new) batch.old batch.new result (captured_line block length) }
+    ensures counts { CountsError E.faults E.wants err.old err.new result }
+{
+    batch.put_pieces(
+        err,
+        &[
+            Piece::Text(b"scr: block "),
+            Piece::Number(u64::from(block)),
+            Piece::Text(b": Captured "),
+            Piece::Number(u64::from(length)),
+            Piece::Text(b"\n"),
+        ],
+    )
+}
+
+fn put_too_many_blocks_line<E: Sink>(
+    batch: &mut Batch,
+    err: &mut E,
+    limit: u32,
+) -> Result<(), SinkError>
+    ensures text { BatchesText (E.written err.old) (E.written err.new) batch.old batch.new result (too_many_blocks_line limit) }
+    ensures counts { CountsError E.faults E.wants err.old err.new result }
+{
+    batch.put_pieces(
+        err,
+        &[
+            Piece::Text(b"scr: more than "),
+            Piece::Number(u64::from(limit)),
+            Piece::Text(b" blocks\n"),
         ],
     )
 }

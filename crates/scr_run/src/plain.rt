@@ -4,8 +4,8 @@ ghost use Rattle.scr_base.specs.Causes.{counted};
 ghost use Rattle.scr_base.specs.declared.row.Row.{Row};
 ghost use Rattle.scr_frame.specs.Fields.{fields};
 ghost use Rattle.scr_pcap.specs.Records.{Record, RECORDS, CAPTURED};
-ghost use Rattle.scr_pcap.specs.Reading.{IsReading};
-ghost use Rattle.scr_pcap.specs.declared.error.CaptureError.{CaptureError};
+ghost use Rattle.scr_pcapng.specs.Reading.{IsReading};
+ghost use Rattle.scr_pcapng.specs.declared.error.AnyError.{AnyError};
 ghost use Rattle.scr_words.specs.declared.word_fault.WordFault.{WordFault};
 ghost use Rattle.scr_replica.specs.OneCore.{verdicts, undivided};
 ghost use Rattle.scr_report.specs.Outcome.{report_of};
@@ -19,7 +19,8 @@ use crate::names::names_of;
 use crate::status::Status;
 use scr_base::{OutOfMemory, Sink, Source};
 use scr_frame::parse;
-use scr_pcap::{FrameBuf, Reader, RecordInfo};
+use scr_pcap::{FrameBuf, RecordInfo};
+use scr_pcapng::AnyReader;
 use scr_plan::Given;
 use scr_program::Program;
 use scr_report::{FrameCounts, Report};
@@ -62,7 +63,7 @@ pub fn plain_run<P: Program, S: Source, O: Sink>(
     ensures read_fault { result ≡ Status.ReadFault → out.new ≡ out.old }
 
     // A malformed capture is answered as such where no read failed.
-    ensures malformed { (bytes : List ℕ) (error : CaptureError) → S.left capture.old ≡ Some bytes → IsReading bytes (Err error)
+    ensures malformed { (bytes : List ℕ) (error : AnyError) → S.left capture.old ≡ Some bytes → IsReading bytes (Err error)
         → S.faults capture.new ≢ counted (S.faults capture.old) → IsUnlessOutOfMemory result (status_of error) }
 
     // Over a valid capture, with no failure of a stream, the report is written.
@@ -137,7 +138,7 @@ fn one_core_answer<P: Program, S: Source>(
     ensures stop { IfErr result (StopsReading (S.left capture.old) (S.faults capture.old) (S.faults capture.new)) }
 {
     let mut frame = FrameBuf::make(alloc)?;
-    let mut reader = Reader::begin(capture)?;
+    let mut reader = AnyReader::begin(alloc, capture)?;
     let mut core = OneCore {
         state: P::fresh(alloc, settings)?,
         given: Vec::new(alloc),

@@ -4,6 +4,7 @@ ghost use Rattle.scr_run.specs.FaultLines.{code_of};
 
 use scr_base::{OutOfMemory, SinkError};
 use scr_pcap::CaptureError;
+use scr_pcapng::{AnyError, NgError};
 use scr_words::{WordFault, WordsError};
 
 /// The exit code of a run that had no memory.
@@ -16,7 +17,7 @@ pub enum Status {
     Done,
     /// The words of the command line are refused. The capture is not read.
     Words(WordFault),
-    /// The capture is malformed: its first fault. Nothing is written.
+    /// A capture in the libpcap file format is malformed: its first fault. Nothing is written.
     Capture(CaptureError),
     /// Reading the capture failed. Nothing is written.
     ReadFault,
@@ -26,6 +27,8 @@ pub enum Status {
     OutOfMemory(OutOfMemory),
     /// The capture has more records than this, the most that are taken. Nothing is written.
     TooMany { limit: u32 },
+    /// A capture in blocks (pcapng) is malformed: its first fault. Nothing is written.
+    Pcapng(NgError),
 }
 
 impl Status {
@@ -39,7 +42,7 @@ impl Status {
         }
     }
 
-    /// The exit code of a program that ends so: 0 where it is done, else 1 to 6.
+    /// The exit code of a program that ends so: 0 where it is done, else 1 to 7.
     pub fn code(&self) -> u8
         ensures { result ≡ code_of self.now }
     {
@@ -51,21 +54,52 @@ impl Status {
             Status::WriteFault => 4,
             Status::OutOfMemory(_) => WANT_CODE,
             Status::TooMany { .. } => 6,
+            Status::Pcapng(_) => 7,
         }
     }
 }
 
 impl From<CaptureError> for Status {
     ghost use Rattle.std.specs.Prelude.{◌≡◌};
-    ghost use Rattle.scr_run.specs.Asked.{status_of};
+    ghost use Rattle.scr_run.specs.Asked.{status_of_classic};
 
-    ghost from_gives = { λ error status. status ≡ status_of error };
+    ghost from_gives = { λ error status. status ≡ status_of_classic error };
 
     fn from(error: CaptureError) -> Self {
         match error {
             CaptureError::ReadFault => Status::ReadFault,
             CaptureError::TooMany { limit } => Status::TooMany { limit },
             malformed => Status::Capture(malformed),
+        }
+    }
+}
+
+impl From<NgError> for Status {
+    ghost use Rattle.std.specs.Prelude.{◌≡◌};
+    ghost use Rattle.scr_run.specs.Asked.{status_of_blocks};
+
+    ghost from_gives = { λ error status. status ≡ status_of_blocks error };
+
+    fn from(error: NgError) -> Self {
+        match error {
+            NgError::TooMany { limit } => Status::TooMany { limit },
+            malformed => Status::Pcapng(malformed),
+        }
+    }
+}
+
+impl From<AnyError> for Status {
+    ghost use Rattle.std.specs.Prelude.{◌≡◌};
+    ghost use Rattle.scr_run.specs.Asked.{status_of};
+
+    ghost from_gives = { λ error status. status ≡ status_of error };
+
+    fn from(error: AnyError) -> Self {
+        match error {
+            AnyError::Classic(fault) => fault.into(),
+            AnyError::Ng(fault) => fault.into(),
+            AnyError::ReadFault => Status::ReadFault,
+            AnyError::OutOfMemory(want) => Status::OutOfMemory(want),
         }
     }
 }

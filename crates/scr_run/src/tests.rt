@@ -7,6 +7,7 @@ use scr_plan::{Drops, Link};
 use std::alloc::Global;
 use std::test::Fail;
 
+mod blocks;
 mod statuses;
 
 /// The header of a capture with times in microseconds.
@@ -43,6 +44,11 @@ struct Ended {
 fn run(alloc: Global, line: &str, length: usize) -> Result<Ended, OutOfMemory> {
     let mut bytes = capture(alloc)?;
     bytes.truncate(length);
+    run_over(alloc, line, bytes)
+}
+
+/// The run of the words of a line over these bytes.
+fn run_over(alloc: Global, line: &str, bytes: Vec<u8>) -> Result<Ended, OutOfMemory> {
     let mut words = Vec::new(alloc);
     for text in line.split(' ') {
         words.push(Word::of(alloc, text.as_bytes())?)?;

@@ -1,9 +1,9 @@
 ghost use Rattle.std.specs.Prelude.{◌≡◌, ◌≢◌, ◌<◌, ◌-◌, ◌^◌, ◌⊎◌, true, ℕ, List, Some, Ok, Err, length};
 ghost use Rattle.std.specs.Io.KnownBytes.{IsAtEnd};
 ghost use Rattle.scr_base.specs.Causes.{counted};
-ghost use Rattle.scr_pcap.specs.declared.error.CaptureError.{CaptureError};
 ghost use Rattle.scr_pcap.specs.Records.{Record};
-ghost use Rattle.scr_pcap.specs.Reading.{IsReading};
+ghost use Rattle.scr_pcapng.specs.Reading.{IsReading};
+ghost use Rattle.scr_pcapng.specs.declared.error.AnyError.{AnyError};
 ghost use Rattle.scr_words.specs.declared.word_fault.WordFault.{WordFault};
 ghost use Rattle.scr_words.specs.declared.settings.RunSettings.{RunSettings};
 ghost use Rattle.scr_words.specs.Operands.{makes_load};
@@ -61,7 +61,7 @@ pub fn scr_main<S: Source, O: Sink, E: Sink>(
     // Refused words are answered as such; a malformed capture is where no read failed; and where neither is refused, and no
     // stream failed, the run is done.
     ensures words { (fault : WordFault) → AreRefused words.now fault → IsUnlessOutOfMemory result (Status.Words fault) }
-    ensures malformed { (bytes : List ℕ) (error : CaptureError) → TakeCapture words.now → S.left capture.old ≡ Some bytes → IsReading bytes (Err error)
+    ensures malformed { (bytes : List ℕ) (error : AnyError) → TakeCapture words.now → S.left capture.old ≡ Some bytes → IsReading bytes (Err error)
         → S.faults capture.new ≢ counted (S.faults capture.old) → IsUnlessOutOfMemory result (status_of error) }
     ensures complete { (bytes : List ℕ) (records : List Record) → TakeCapture words.now → S.left capture.old ≡ Some bytes → IsReading bytes (Ok records)
         → S.faults capture.new ≢ counted (S.faults capture.old) → O.faults out.new ≢ counted (O.faults out.old) → IsUnlessOutOfMemory result Status.Done }

@@ -1,5 +1,5 @@
 use Rattle.std.proofs.Common.{Ok, Err}
-use Rattle.scr_pcap.proofs.OneReading.{same_readings}
+use Rattle.scr_pcapng.proofs.OneReading.{same_readings}
 use Rattle.scr_run.proofs.Ending.{malformed, complete, capture-asked}
 use Rattle.scr_run.proofs.engine.run_engine.Goals as goal
 

@@ -1,5 +1,5 @@
 use Rattle.std.proofs.Common.{Ok, Err}
-use Rattle.scr_pcap.proofs.OneReading.{same_readings}
+use Rattle.scr_pcapng.proofs.OneReading.{same_readings}
 use Rattle.scr_run.proofs.Ending.{malformed, complete, status-is, Ends-front}
 use Rattle.scr_run.proofs.Main.{asked-refused, asked-load, asked-capture, refused-takes, load-takes}
 use Rattle.scr_run.proofs.top.scr_main.Goals as goal
