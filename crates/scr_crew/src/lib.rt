@@ -1,0 +1,8 @@
+//! The crew: all cores of a run, each in a thread of its own.
+#![tactic(auto)]
+
+mod open_gate;
+mod work;
+mod workers;
+
+pub use open_gate::OpenGate;
