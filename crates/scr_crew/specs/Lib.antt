@@ -1,2 +1,3 @@
+pub mod Cores
 pub mod Workers
-pub mod Crew
+pub mod Answers

@@ -1,6 +1,8 @@
 //! The crew: all cores of a run, each in a thread of its own.
 #![tactic(auto)]
 
+mod ending;
+mod feeding;
 mod open_gate;
 mod work;
 mod workers;

@@ -1,6 +1,6 @@
 ghost use Rattle.std.specs.Prelude.{◌≡◌, IfSome};
 ghost use Rattle.scr_crew.specs.Workers.{IsWorker};
-ghost use Rattle.scr_crew.specs.Crew.{IsAnswer};
+ghost use Rattle.scr_crew.specs.Answers.{IsAnswer};
 
 use crate::workers::Worker;
 use scr_log::Logs;
@@ -21,23 +21,13 @@ pub struct Work<P: Program> {
 }
 
 impl<P: Program> Promise<Result<CoreResult, CoreStop>> for Work<P> {
-    ghost use Rattle.scr_crew.specs.Crew.{IsAnswer};
+    ghost use Rattle.scr_crew.specs.Answers.{IsAnswer};
 
     ghost kept_by = { λ work answer. IsAnswer (P.verdict_after work.settings.value) (P.count_after work.settings.value) work.plan.value work.core answer };
 }
 
 /// The thread of a core.
 pub type Started<P> = PromisedHandle<Result<CoreResult, CoreStop>, Work<P>>;
-
-/// What the threads of a run share.
-pub struct Shared<'s, P: Program, G, R> {
-    pub rt: &'s R,
-    pub alloc: Global,
-    pub settings: &'s P::Settings,
-    pub plan: &'s RunPlan,
-    pub logs: &'s Logs,
-    pub gate: &'s G,
-}
 
 /// Starts the thread of a core. None where no thread can be started.
 pub fn start_worker<'s, E, P: Program + 's, G: Gate + Sync + 's, R: Wait + Sync + 's>(

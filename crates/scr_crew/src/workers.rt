@@ -1,6 +1,7 @@
 ghost use Rattle.std.specs.Prelude.{◌≡◌, ◌+◌, ◌≤◌, IfOk, IfSome};
 ghost use Rattle.scr_plan.specs.Limits.{most_cores};
-ghost use Rattle.scr_crew.specs.Workers.{AreNewEnds, AreWorkers};
+ghost use Rattle.scr_crew.specs.Cores.{OfCores};
+ghost use Rattle.scr_crew.specs.Workers.{IsNewEnd, IsWorker};
 
 use scr_base::OutOfMemory;
 use scr_lane::ReceiveEnd;
@@ -25,13 +26,15 @@ fn claim(logs: &Logs, free: &mut FreePass, core: u32) -> Option<CorePass>
     ensures free { free.new.logs ≡ logs.now }
     ensures stock { free.old.stock ≡ free.new.stock + 1 }
 {
-    match logs.claim(free.split(logs)) {
-        Ok(pass) if pass.core() == core => Some(pass),
-        _ => None,
+    let pass = logs.claim(free.split(logs)).ok()?;
+    if pass.core() == core {
+        Some(pass)
+    } else {
+        None
     }
 }
 
-/// Claims every core, in order, for the ends of the lanes. None where a core was claimed by another before.
+/// Claims every core, in order, for the ends of their lanes. None where a core was drawn before.
 pub fn claim_all(
     alloc: Global,
     logs: &Logs,
@@ -40,8 +43,9 @@ pub fn claim_all(
 ) -> Result<Option<Vec<Worker>>, OutOfMemory>
     requires of_these { free.old.logs ≡ logs.now }
     requires stock { most_cores + 1 ≤ free.old.stock }
-    requires ends { AreNewEnds logs.now.plan 0 ends.items }
-    ensures workers { IfOk result (λ all. IfSome all (λ workers. AreWorkers logs.now 0 logs.now.plan.cores workers.items)) }
+    requires few { logs.now.plan.cores ≤ most_cores }
+    requires ends { OfCores (IsNewEnd logs.now.plan) logs.now.plan.cores ends.items }
+    ensures workers { IfOk result (λ all. IfSome all (λ workers. OfCores (IsWorker logs.now) logs.now.plan.cores workers.items)) }
     ensures free { free.new.logs ≡ logs.now }
 {
     let mut workers = Vec::with_capacity(alloc, ends.len())?;
