@@ -8,12 +8,15 @@ ghost use Rattle.scr_run.specs.FaultLines.{code_of, fault_line, want_code, want_
 
 use crate::arguments::NoWords;
 use scr_base::{Sink, Source, Word};
-use scr_run::{scr_main, tell_want};
+use scr_run::{OpenGate, scr_main, tell_want};
 use std::alloc::Global;
+use std::sync::Wait;
+use std::thread::Threads;
 
 /// Runs the program on its words, and answers the exit code. Where there are none, that of a run out of memory, whose line
 /// is written to `err`, and nothing is read.
-pub fn ended<S: Source, O: Sink, E: Sink>(
+pub fn ended<S: Source, O: Sink, E: Sink, R: Threads + Wait + Sync>(
+    rt: &R,
     alloc: Global,
     words: Result<Vec<Word>, NoWords>,
     capture: &mut S,
@@ -33,7 +36,7 @@ pub fn ended<S: Source, O: Sink, E: Sink>(
         × IsTold E.written E.faults E.wants err.old err.new want_line) }
 {
     match words {
-        Ok(words) => scr_main(alloc, &words, capture, out, err).code(),
+        Ok(words) => scr_main(rt, alloc, &words, capture, out, err, &OpenGate).code(),
         Err(_) => tell_want(err),
     }
 }

@@ -9,7 +9,9 @@ use scr_base::{OutOfMemory, SureSink, SureSource};
 use std::alloc::{AllocError, Global};
 use std::env::Args;
 use std::io;
+use std::sync::Wait;
 use std::test::Fail;
+use std::thread::Threads;
 
 /// The arguments, as the system gives them.
 fn arguments(alloc: Global, texts: &[&str]) -> Result<Args, Fail> {
@@ -56,7 +58,8 @@ fn tells_why_there_are_no_words(rt: HostRuntime) {
 }
 
 /// The code, the report and the line of a run over a capture without records.
-fn run_over(
+fn run_over<R: Threads + Wait + Sync>(
+    rt: &R,
     alloc: Global,
     words: Result<Vec<scr_base::Word>, NoWords>,
 ) -> Result<(u8, SureSink, SureSink), Fail>
@@ -68,7 +71,7 @@ fn run_over(
     let mut capture = SureSource::new(Vec::from_slice(alloc, &header)?, 100);
     let mut out = SureSink::new(alloc, 100);
     let mut err = SureSink::new(alloc, 100);
-    let code = ended(alloc, words, &mut capture, &mut out, &mut err);
+    let code = ended(rt, alloc, words, &mut capture, &mut out, &mut err);
     Ok((code, out, err))
 }
 
@@ -85,7 +88,7 @@ fn runs_the_words(rt: HostRuntime) -> Result<(), Fail> {
     ];
     for (texts, code, report, line) in cases {
         let words = words_given(rt.alloc(), Ok(arguments(rt.alloc(), texts)?));
-        let (answer, out, err) = run_over(rt.alloc(), words)?;
+        let (answer, out, err) = run_over(&rt, rt.alloc(), words)?;
         assert_eq!(rt; answer, code);
         assert_eq!(rt; out.written(), report.as_bytes());
         assert_eq!(rt; err.written(), line.as_bytes());
@@ -100,7 +103,7 @@ fn ends_where_there_are_no_words(rt: HostRuntime) -> Result<(), Fail> {
         .expect(&rt, "no memory is so large");
     let want = OutOfMemory::from(refused);
     for none in [NoWords::OutOfMemory(want), NoWords::TooMany] {
-        let (code, out, err) = run_over(rt.alloc(), Err(none))?;
+        let (code, out, err) = run_over(&rt, rt.alloc(), Err(none))?;
         assert_eq!(rt; code, 5);
         assert_eq!(rt; out.written(), &b""[..]);
         assert_eq!(rt; err.written(), &b"scr: out of memory\n"[..]);

@@ -30,6 +30,7 @@
 
 mod entry;
 mod filling;
+mod gate;
 mod gathered;
 mod known;
 mod laws;
@@ -37,10 +38,17 @@ mod listener;
 mod merging;
 mod phases;
 mod replay;
+mod standing;
 #[cfg(test)]
 mod tests;
+mod turn;
+mod worker;
 
+pub use gate::Gate;
 pub use gathered::{CoreResult, Gathered};
 pub use laws::{frames_of_a_lane, none_dropped, one_core_of_all, one_verdict_each};
 pub use merging::gather;
 pub use phases::run_phases;
+pub use standing::Standing;
+pub use turn::{Pending, Turn};
+pub use worker::{CoreCause, CoreStop, run_core};

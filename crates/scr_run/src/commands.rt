@@ -10,6 +10,7 @@ ghost use Rattle.scr_run.specs.Ends.{Ends, IsText, ended};
 ghost use Rattle.scr_run.specs.Tasks.{IsByTask};
 
 use crate::engine::run_cores;
+use crate::host::Host;
 use crate::plain::run_whole;
 use crate::status::Status;
 use crate::task::Task;
@@ -22,13 +23,15 @@ use scr_heavy::Heavy;
 use scr_knock::Knock;
 use scr_pcap::generate;
 use scr_program::Program;
+use scr_replica::Gate;
 use scr_tables::Tables;
 use scr_words::{Command, OneSettings, ProgramSettings, RunSettings};
-use std::alloc::Global;
+use std::sync::Wait;
+use std::thread::Threads;
 
 /// Does what the settings ask for, with the program that they choose.
-pub(crate) fn run_chosen<S: Source, O: Sink>(
-    alloc: Global,
+pub(crate) fn run_chosen<S: Source, O: Sink, G: Gate + Sync, R: Threads + Wait + Sync>(
+    host: &Host<'_, R, G>,
     chosen: RunSettings,
     capture: &mut S,
     out: &mut O,
@@ -53,19 +56,19 @@ pub(crate) fn run_chosen<S: Source, O: Sink>(
         hosts,
     };
     match program {
-        ProgramSettings::One(settings) => run_one(alloc, settings, task, capture, out),
+        ProgramSettings::One(settings) => run_one(host, settings, task, capture, out),
         ProgramSettings::Chain { first, second } => {
-            run_pair(alloc, first, second, task, capture, out)
+            run_pair(host, first, second, task, capture, out)
         }
         ProgramSettings::Table(settings) => {
-            run_command::<Tables, S, O>(alloc, &settings, task, capture, out)
+            run_command::<Tables, S, O, G, R>(host, &settings, task, capture, out)
         }
     }
 }
 
 // Does the task with one program.
-fn run_one<S: Source, O: Sink>(
-    alloc: Global,
+fn run_one<S: Source, O: Sink, G: Gate + Sync, R: Threads + Wait + Sync>(
+    host: &Host<'_, R, G>,
     program: OneSettings,
     task: Task,
     capture: &mut S,
@@ -77,27 +80,27 @@ fn run_one<S: Source, O: Sink>(
 {
     match program {
         OneSettings::Ddos(settings) => {
-            run_command::<Ddos, S, O>(alloc, &settings, task, capture, out)
+            run_command::<Ddos, S, O, G, R>(host, &settings, task, capture, out)
         }
         OneSettings::Heavy(settings) => {
-            run_command::<Heavy, S, O>(alloc, &settings, task, capture, out)
+            run_command::<Heavy, S, O, G, R>(host, &settings, task, capture, out)
         }
         OneSettings::Bucket(settings) => {
-            run_command::<Bucket, S, O>(alloc, &settings, task, capture, out)
+            run_command::<Bucket, S, O, G, R>(host, &settings, task, capture, out)
         }
         OneSettings::Knock(settings) => {
-            run_command::<Knock, S, O>(alloc, &settings, task, capture, out)
+            run_command::<Knock, S, O, G, R>(host, &settings, task, capture, out)
         }
         OneSettings::Conn(settings) => {
-            run_command::<Conn, S, O>(alloc, &settings, task, capture, out)
+            run_command::<Conn, S, O, G, R>(host, &settings, task, capture, out)
         }
     }
 }
 
 // Does the task with a chain of two programs. The words refuse the tracker as the first, and two of a kind; nothing here
 // depends on that.
-fn run_pair<S: Source, O: Sink>(
-    alloc: Global,
+fn run_pair<S: Source, O: Sink, G: Gate + Sync, R: Threads + Wait + Sync>(
+    host: &Host<'_, R, G>,
     first: OneSettings,
     second: OneSettings,
     task: Task,
@@ -110,26 +113,26 @@ fn run_pair<S: Source, O: Sink>(
 {
     match first {
         OneSettings::Ddos(settings) => {
-            run_behind::<Ddos, S, O>(alloc, settings, second, task, capture, out)
+            run_behind::<Ddos, S, O, G, R>(host, settings, second, task, capture, out)
         }
         OneSettings::Heavy(settings) => {
-            run_behind::<Heavy, S, O>(alloc, settings, second, task, capture, out)
+            run_behind::<Heavy, S, O, G, R>(host, settings, second, task, capture, out)
         }
         OneSettings::Bucket(settings) => {
-            run_behind::<Bucket, S, O>(alloc, settings, second, task, capture, out)
+            run_behind::<Bucket, S, O, G, R>(host, settings, second, task, capture, out)
         }
         OneSettings::Knock(settings) => {
-            run_behind::<Knock, S, O>(alloc, settings, second, task, capture, out)
+            run_behind::<Knock, S, O, G, R>(host, settings, second, task, capture, out)
         }
         OneSettings::Conn(settings) => {
-            run_behind::<Conn, S, O>(alloc, settings, second, task, capture, out)
+            run_behind::<Conn, S, O, G, R>(host, settings, second, task, capture, out)
         }
     }
 }
 
 // Does the task with a chain whose first program is this one.
-fn run_behind<A: Program, S: Source, O: Sink>(
-    alloc: Global,
+fn run_behind<A: Program, S: Source, O: Sink, G: Gate + Sync, R: Threads + Wait + Sync>(
+    host: &Host<'_, R, G>,
     first: A::Settings,
     second: OneSettings,
     task: Task,
@@ -143,30 +146,30 @@ fn run_behind<A: Program, S: Source, O: Sink>(
     match second {
         OneSettings::Ddos(second) => {
             let settings = ChainSettings { first, second };
-            run_command::<Chain<A, Ddos>, S, O>(alloc, &settings, task, capture, out)
+            run_command::<Chain<A, Ddos>, S, O, G, R>(host, &settings, task, capture, out)
         }
         OneSettings::Heavy(second) => {
             let settings = ChainSettings { first, second };
-            run_command::<Chain<A, Heavy>, S, O>(alloc, &settings, task, capture, out)
+            run_command::<Chain<A, Heavy>, S, O, G, R>(host, &settings, task, capture, out)
         }
         OneSettings::Bucket(second) => {
             let settings = ChainSettings { first, second };
-            run_command::<Chain<A, Bucket>, S, O>(alloc, &settings, task, capture, out)
+            run_command::<Chain<A, Bucket>, S, O, G, R>(host, &settings, task, capture, out)
         }
         OneSettings::Knock(second) => {
             let settings = ChainSettings { first, second };
-            run_command::<Chain<A, Knock>, S, O>(alloc, &settings, task, capture, out)
+            run_command::<Chain<A, Knock>, S, O, G, R>(host, &settings, task, capture, out)
         }
         OneSettings::Conn(second) => {
             let settings = ChainSettings { first, second };
-            run_command::<Chain<A, Conn>, S, O>(alloc, &settings, task, capture, out)
+            run_command::<Chain<A, Conn>, S, O, G, R>(host, &settings, task, capture, out)
         }
     }
 }
 
 // Does the task with this program.
-fn run_command<P: Program, S: Source, O: Sink>(
-    alloc: Global,
+fn run_command<P: Program, S: Source, O: Sink, G: Gate + Sync, R: Threads + Wait + Sync>(
+    host: &Host<'_, R, G>,
     settings: &P::Settings,
     task: Task,
     capture: &mut S,
@@ -177,15 +180,15 @@ fn run_command<P: Program, S: Source, O: Sink>(
     ensures unread { makes_load task.command ≡ true → capture.new ≡ capture.old }
 {
     match task.command {
-        Command::Plain => run_whole::<P, S, O>(alloc, settings, capture, out),
-        Command::Run => run_cores::<P, S, O>(alloc, settings, task.shape, true, capture, out),
-        Command::Load => run_load::<P, O>(alloc, settings, task, out),
+        Command::Plain => run_whole::<P, S, O>(host.alloc, settings, capture, out),
+        Command::Run => run_cores::<P, S, O, G, R>(host, settings, task.shape, true, capture, out),
+        Command::Load => run_load::<P, O, G, R>(host, settings, task, out),
     }
 }
 
 // Lets the cores take a capture that is made up.
-fn run_load<P: Program, O: Sink>(
-    alloc: Global,
+fn run_load<P: Program, O: Sink, G: Gate + Sync, R: Threads + Wait + Sync>(
+    host: &Host<'_, R, G>,
     settings: &P::Settings,
     task: Task,
     out: &mut O,
@@ -195,7 +198,7 @@ fn run_load<P: Program, O: Sink>(
         (generated_records task.start task.frames task.hosts)))
         ⊥ (Unit {0}) O.written 0 0 O.faults O.wants out.old out.new (ended result) }
 {
-    let bytes = generate(alloc, task.start, task.frames, task.hosts)?;
+    let bytes = generate(host.alloc, task.start, task.frames, task.hosts)?;
     let mut made = SureSource::new(bytes, usize::MAX);
-    run_cores::<P, SureSource, O>(alloc, settings, task.shape, false, &mut made, out)
+    run_cores::<P, SureSource, O, G, R>(host, settings, task.shape, false, &mut made, out)
 }

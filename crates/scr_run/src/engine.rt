@@ -9,6 +9,8 @@ ghost use Rattle.scr_words.specs.declared.word_fault.WordFault.{WordFault};
 ghost use Rattle.std.specs.List.{range_with_len};
 ghost use Rattle.scr_plan.specs.Counts.{delivered_count, kept_count, plan_counts};
 ghost use Rattle.scr_plan.specs.Plan.{frame_count};
+ghost use Rattle.scr_log.specs.Layout.{most_slots};
+ghost use Rattle.scr_replica.specs.OneCore.{verdicts, entries};
 ghost use Rattle.scr_report.specs.Outcome.{report_of};
 ghost use Rattle.scr_run.specs.Rules.{ruled_by};
 ghost use Rattle.scr_run.specs.RunReport.{shaped_text, rows_of};
@@ -16,6 +18,7 @@ ghost use Rattle.scr_run.specs.Asked.{IsOfCapture, status_of};
 ghost use Rattle.scr_run.specs.Ends.{Ends, ended, Writes, StopsWriting, BeginsWriting, HasFault, StopsReading, IsRefusal, IsOutOfMemory, IsUnlessOutOfMemory, IsWantsBehind, reads_behind, writes_behind};
 
 use crate::found::write_found;
+use crate::host::Host;
 use crate::names::names_of;
 use crate::status::Status;
 use scr_base::{OutOfMemory, Row, Sink, Source};
@@ -24,22 +27,28 @@ use scr_pcap::FrameBuf;
 use scr_pcapng::AnyReader;
 use scr_plan::{CoreCounts, RunPlan};
 use scr_program::Program;
-use scr_replica::{Gathered, run_phases};
+use scr_crew::run_threads;
+use scr_replica::{Gate, Gathered, run_phases};
 use scr_report::{FrameCounts, Report};
 use scr_words::Shape;
 use std::alloc::Global;
+use std::sync::Wait;
+use std::thread::Threads;
 
 /// A program over a capture, on the cores of a shape: the capture is read whole, its frames are dealt to the cores, and
-/// the report of what they gathered is written, with the verdicts or without. It waits for nothing.
+/// the report of what they gathered is written, with the verdicts or without. The cores are threads, or take turns on this
+/// one, as the shape says. It may wait for threads.
 ///
 /// `out` gains the report, whole at [`Status::Done`] and else a front of it.
-pub fn run_engine<P: Program, S: Source, O: Sink>(
+pub fn run_engine<P: Program, S: Source, O: Sink, G: Gate + Sync, R: Threads + Wait + Sync>(
+    rt: &R,
     alloc: Global,
     settings: &P::Settings,
     shape: Shape,
     with_verdicts: bool,
     capture: &mut S,
     out: &mut O,
+    gate: &G,
 ) -> Status
     // At every exit `out` gained nothing, or a front of the report, and that behind the end of the capture.
     ensures front { (out.new ≡ out.old) ⊎ BeginsWriting
@@ -81,12 +90,20 @@ pub fn run_engine<P: Program, S: Source, O: Sink>(
     ensures writes { O.faults out.new ≡ writes_behind result (O.faults out.old) }
     ensures wants { IsWantsBehind result (O.wants out.old) (O.wants out.new) }
 {
-    Status::of(run_cores::<P, S, O>(alloc, settings, shape, with_verdicts, capture, out))
+    let host = Host { rt, alloc, gate };
+    Status::of(run_cores::<P, S, O, G, R>(
+        &host,
+        settings,
+        shape,
+        with_verdicts,
+        capture,
+        out,
+    ))
 }
 
 /// The same, as how it ended tells it.
-pub(crate) fn run_cores<P: Program, S: Source, O: Sink>(
-    alloc: Global,
+pub(crate) fn run_cores<P: Program, S: Source, O: Sink, G: Gate + Sync, R: Threads + Wait + Sync>(
+    host: &Host<'_, R, G>,
     settings: &P::Settings,
     shape: Shape,
     with_verdicts: bool,
@@ -96,11 +113,40 @@ pub(crate) fn run_cores<P: Program, S: Source, O: Sink>(
     ensures ends { Ends (IsOfCapture (shaped_text (ruled_by (P.row_of settings.now) (P.verdict_after settings.now) (P.count_after settings.now) P.verdict_names) shape with_verdicts) (S.left capture.old))
         (Unit {0}) (IsAtEnd (S.left capture.new)) O.written (S.faults capture.old) (S.faults capture.new) O.faults O.wants out.old out.new (ended result) }
 {
+    let alloc = host.alloc;
     let rows = rows_read::<P, S>(alloc, settings, capture)?;
-    let plan = RunPlan::make(rows, shape.cores, shape.history, shape.link);
-    let gathered = run_phases::<P>(alloc, settings, &plan)?;
+    let Shape {
+        cores,
+        history,
+        link,
+        ring,
+        threads,
+    } = shape;
+    let plan = RunPlan::make(rows, cores, history, link);
+    let gathered = gathered_by::<P, G, R>(host, settings, &plan, ring, threads)?;
     let report = report_on::<P>(alloc, &plan, gathered)?;
     write_found::<P, O>(alloc, &report, with_verdicts, out)
+}
+
+// What the cores gather, in threads or in turns.
+fn gathered_by<P: Program, G: Gate + Sync, R: Threads + Wait + Sync>(
+    host: &Host<'_, R, G>,
+    settings: &P::Settings,
+    plan: &RunPlan,
+    ring: u32,
+    threads: bool,
+) -> Result<Gathered, OutOfMemory>
+    requires some_slots { 1 ≤ ring }
+    requires few_slots { ring ≤ most_slots }
+    ensures verdicts { IfOk result (λ it. it.verdicts ≡ verdicts (P.verdict_after settings.now) plan.now) }
+    ensures cores { IfOk result (λ it. it.cores ≡ map (plan_counts plan.now) (range_with_len 0 plan.now.cores)) }
+    ensures flows { IfOk result (λ it. it.flows ≡ entries (P.count_after settings.now) plan.now) }
+{
+    if threads {
+        run_threads::<P, G, R>(host.rt, host.alloc, settings, plan, ring, host.gate)
+    } else {
+        run_phases::<P>(host.alloc, settings, plan)
+    }
 }
 
 // What the cores gathered, as a report.

@@ -31,6 +31,7 @@ mod commands;
 mod engine;
 mod fault_line;
 mod found;
+mod host;
 mod laws;
 mod names;
 mod plain;
@@ -45,6 +46,8 @@ pub use fault_line::{tell_want, write_fault_line};
 pub use laws::plain_over_an_empty_link;
 pub use names::names_of;
 pub use plain::plain_run;
+pub use scr_crew::OpenGate;
+pub use scr_replica::Gate;
 pub use scr_words::{
     Command, OneSettings, ProgramSettings, RunSettings, Shape, WordCause, WordFault, WordsError,
     one_answer, put_word_line, read_words, some_answer,

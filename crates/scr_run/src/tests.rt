@@ -1,11 +1,13 @@
 //! Runs over captures in memory. Captures, reports and lines are written by hand.
 
-use crate::{Shape, Status, names_of, plain_run, run_engine, scr_main};
+use crate::{OpenGate, Shape, Status, names_of, plain_run, run_engine, scr_main};
 use scr_base::{OutOfMemory, SureSink, SureSource, Word};
 use scr_ddos::{Ddos, DdosSettings};
 use scr_plan::{Drops, Link};
 use std::alloc::Global;
+use std::sync::Wait;
 use std::test::Fail;
+use std::thread::Threads;
 
 mod blocks;
 mod statuses;
@@ -41,14 +43,24 @@ struct Ended {
 }
 
 /// The run of the words of a line over so many of the first bytes of the capture.
-fn run(alloc: Global, line: &str, length: usize) -> Result<Ended, OutOfMemory> {
+fn run<R: Threads + Wait + Sync>(
+    rt: &R,
+    alloc: Global,
+    line: &str,
+    length: usize,
+) -> Result<Ended, OutOfMemory> {
     let mut bytes = capture(alloc)?;
     bytes.truncate(length);
-    run_over(alloc, line, bytes)
+    run_over(rt, alloc, line, bytes)
 }
 
 /// The run of the words of a line over these bytes.
-fn run_over(alloc: Global, line: &str, bytes: Vec<u8>) -> Result<Ended, OutOfMemory> {
+fn run_over<R: Threads + Wait + Sync>(
+    rt: &R,
+    alloc: Global,
+    line: &str,
+    bytes: Vec<u8>,
+) -> Result<Ended, OutOfMemory> {
     let mut words = Vec::new(alloc);
     for text in line.split(' ') {
         words.push(Word::of(alloc, text.as_bytes())?)?;
@@ -58,7 +70,15 @@ fn run_over(alloc: Global, line: &str, bytes: Vec<u8>) -> Result<Ended, OutOfMem
     let mut source = SureSource::new(bytes, 100);
     let mut out = SureSink::new(alloc, usize::MAX);
     let mut err = SureSink::new(alloc, usize::MAX);
-    let status = scr_main(alloc, &words, &mut source, &mut out, &mut err);
+    let status = scr_main(
+        rt,
+        alloc,
+        &words,
+        &mut source,
+        &mut out,
+        &mut err,
+        &OpenGate,
+    );
     Ok(Ended { status, out, err })
 }
 
@@ -132,7 +152,7 @@ fn reports_what_is_asked_for(rt: HostRuntime) -> Result<(), Fail> {
         ),
     ];
     for (line, report) in cases {
-        let ended = run(rt.alloc(), line, 256)?;
+        let ended = run(&rt, rt.alloc(), line, 256)?;
         assert_eq!(rt; ended.status, Status::Done);
         assert_eq!(rt; ended.out.written(), report.as_bytes());
         assert_eq!(rt; ended.err.written(), &b""[..]);
@@ -155,7 +175,7 @@ fn tells_why_it_stopped(rt: HostRuntime) -> Result<(), Fail> {
         ("plain program=ddos", 255, 2, "scr: record 4: ShortRecord\n"),
     ];
     for (line, length, code, told) in cases {
-        let ended = run(rt.alloc(), line, length)?;
+        let ended = run(&rt, rt.alloc(), line, length)?;
         assert_eq!(rt; ended.status.code(), code);
         assert_eq!(rt; ended.out.written(), &b""[..]);
         assert_eq!(rt; ended.err.written(), told.as_bytes());
@@ -176,13 +196,15 @@ fn a_program_runs_by_itself(rt: HostRuntime) -> Result<(), Fail> {
     };
     let mut source = SureSource::new(capture(alloc)?, 100);
     let mut out = SureSink::new(alloc, 100);
-    let status = run_engine::<Ddos, SureSource, SureSink>(
+    let status = run_engine::<Ddos, SureSource, SureSink, OpenGate, HostRuntime>(
+        &rt,
         alloc,
         &settings,
         shape,
         true,
         &mut source,
         &mut out,
+        &OpenGate,
     );
     assert_eq!(rt; status, Status::Done);
     assert_eq!(rt; out.written().len(), 161);

@@ -15,10 +15,14 @@ ghost use Rattle.scr_run.specs.Ends.{Ends, ended, Writes, StopsWriting, BeginsWr
 
 use crate::commands::run_chosen;
 use crate::fault_line::write_fault_line;
+use crate::host::Host;
 use crate::status::Status;
 use scr_base::{Sink, Source, Word};
+use scr_replica::Gate;
 use scr_words::read_words;
 use std::alloc::Global;
+use std::sync::Wait;
+use std::thread::Threads;
 
 /// All that the program does: it tests the words, takes the capture that they ask for, lets the program and the cores
 /// that they choose give verdicts, and writes the report to `out`. Where the run ends otherwise, it writes the line of
@@ -27,13 +31,15 @@ use std::alloc::Global;
 /// `words` are the arguments behind the program's own name. `capture` is read a piece at a time, in one pass, and not
 /// at all where the words are refused, or ask for a capture that is made up. `out` gains nothing before the capture is
 /// read to its end, and from then on the report, whole at [`Status::Done`] and else a front of it. A failure of `err`
-/// changes nothing of the answer.
-pub fn scr_main<S: Source, O: Sink, E: Sink>(
+/// changes nothing of the answer. Each core of a run goes through the gate, where the cores are threads. It may wait for them.
+pub fn scr_main<S: Source, O: Sink, E: Sink, G: Gate + Sync, R: Threads + Wait + Sync>(
+    rt: &R,
     alloc: Global,
     words: &[Word],
     capture: &mut S,
     out: &mut O,
     err: &mut E,
+    gate: &G,
 ) -> Status
     requires few_words { length words.now < 2 ^ 32 - 1 }
 
@@ -78,13 +84,14 @@ pub fn scr_main<S: Source, O: Sink, E: Sink>(
     ensures line { IsTold E.written E.faults E.wants err.old err.new (fault_line result) }
     ensures silent { result ≡ Status.Done → err.new ≡ err.old }
 {
-    let status = Status::of(run(alloc, words, capture, out));
+    let host = Host { rt, alloc, gate };
+    let status = Status::of(run(&host, words, capture, out));
     let _ = write_fault_line(err, &status);
     status
 }
 
-fn run<S: Source, O: Sink>(
-    alloc: Global,
+fn run<S: Source, O: Sink, G: Gate + Sync, R: Threads + Wait + Sync>(
+    host: &Host<'_, R, G>,
     words: &[Word],
     capture: &mut S,
     out: &mut O,
@@ -94,6 +101,6 @@ fn run<S: Source, O: Sink>(
         O.written (S.faults capture.old) (S.faults capture.new) O.faults O.wants out.old out.new (ended result) }
     ensures unread { (TakeCapture words.now → ⊥) → capture.new ≡ capture.old }
 {
-    let chosen = read_words(alloc, words)?;
-    run_chosen(alloc, chosen, capture, out)
+    let chosen = read_words(host.alloc, words)?;
+    run_chosen(host, chosen, capture, out)
 }

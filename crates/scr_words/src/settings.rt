@@ -60,7 +60,7 @@ pub struct Shape {
     pub history: u32,
     /// What lies between the sequencer and the cores.
     pub link: Link,
-    /// How many messages wait for a core at most, from 1 to 4,096.
+    /// How many slots the log of a core has, from 1 to 4,096.
     pub ring: u32,
     /// Whether each core has a thread of its own.
     pub threads: bool,

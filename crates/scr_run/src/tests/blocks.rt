@@ -56,7 +56,7 @@ fn reports_of_a_capture_in_blocks(rt: HostRuntime) -> Result<(), Fail> {
         ),
     ];
     for (line, report) in cases {
-        let ended = run_over(rt.alloc(), line, in_blocks(rt.alloc(), 352)?)?;
+        let ended = run_over(&rt, rt.alloc(), line, in_blocks(rt.alloc(), 352)?)?;
         assert_eq!(rt; ended.status, Status::Done);
         assert_eq!(rt; ended.out.written(), report.as_bytes());
         assert_eq!(rt; ended.err.written(), &b""[..]);
@@ -74,7 +74,7 @@ fn tells_why_blocks_stopped_it(rt: HostRuntime) -> Result<(), Fail> {
         ("plain program=ddos", 4, header, "scr: block 1: Cut\n"),
     ];
     for (line, length, status, told) in cases {
-        let ended = run_over(rt.alloc(), line, in_blocks(rt.alloc(), length)?)?;
+        let ended = run_over(&rt, rt.alloc(), line, in_blocks(rt.alloc(), length)?)?;
         assert_eq!(rt; ended.status, status);
         assert_eq!(rt; ended.out.written(), &b""[..]);
         assert_eq!(rt; ended.err.written(), told.as_bytes());

@@ -1,0 +1,65 @@
+ghost use Rattle.std.specs.Prelude.{◌≡◌, IfSome};
+ghost use Rattle.scr_crew.specs.Workers.{IsWorker};
+ghost use Rattle.scr_crew.specs.Answers.{IsAnswer};
+
+use crate::workers::Worker;
+use scr_log::Logs;
+use scr_plan::RunPlan;
+use scr_program::Program;
+use scr_replica::{CoreResult, CoreStop, Gate, run_core};
+use std::alloc::Global;
+use std::snapshot::Snapshot;
+use std::sync::Wait;
+use std::thread::{Promise, PromisedHandle, Scope};
+
+/// What the thread of a core promises: what the core answers, where it comes to its end.
+#[derive(Drop)]
+pub struct Work<P: Program> {
+    settings: Snapshot<P::Settings>,
+    plan: Snapshot<RunPlan>,
+    core: u32,
+}
+
+impl<P: Program> Promise<Result<CoreResult, CoreStop>> for Work<P> {
+    ghost use Rattle.scr_crew.specs.Answers.{IsAnswer};
+
+    ghost kept_by = { λ work answer. IsAnswer (P.verdict_after work.settings.value) (P.count_after work.settings.value) work.plan.value work.core answer };
+}
+
+/// The thread of a core.
+pub type Started<P> = PromisedHandle<Result<CoreResult, CoreStop>, Work<P>>;
+
+/// Starts the thread of a core. None where no thread can be started.
+pub fn start_worker<'s, E, P: Program + 's, G: Gate + Sync + 's, R: Wait + Sync + 's>(
+    scope: &Scope<'s, E>,
+    rt: &'s R,
+    alloc: Global,
+    settings: &'s P::Settings,
+    plan: &RunPlan,
+    logs: &'s Logs,
+    gate: &'s G,
+    worker: Worker,
+) -> Option<Started<P>>
+    requires plan { logs.now.plan ≡ plan.now }
+    requires worker { IsWorker logs.now worker.pass.core worker }
+    ensures settings { IfSome result (λ it. it.promise.settings.value ≡ settings.now) }
+    ensures plan { IfSome result (λ it. it.promise.plan.value ≡ plan.now) }
+    ensures core { IfSome result (λ it. it.promise.core ≡ worker.pass.core) }
+{
+    let core = worker.pass.core();
+    let work = Work {
+        settings: Snapshot::of(settings),
+        plan: Snapshot::of(plan),
+        core,
+    };
+    let Worker { lane, pass } = worker;
+    scope
+        .spawn_with(
+            work,
+            move || -> Result<CoreResult, CoreStop>
+                requires { IsWorker logs.now pass.core (record { lane = lane; pass = pass }) }
+                ensures { IsAnswer (P.verdict_after settings.entry.now) (P.count_after settings.entry.now) logs.entry.now.plan pass.core result }
+            { run_core::<P, G, R>(rt, alloc, settings, lane, pass, logs, gate) },
+        )
+        .ok()
+}
