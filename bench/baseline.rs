@@ -1,13 +1,18 @@
-//! The same work as scr's in plain Rust, std only and one thread, to measure against. Nothing of it is proved.
+//! The same work as scr's in plain Rust, std only, to measure against. Nothing of it is proved.
 //!
-//! `run program=ddos threshold=N` and `plain program=NAME` read a capture on standard input, and write the report; `step
-//! PROGRAM FLOWS PACKETS`, `lane KIND FRAMES` and `log CORES ROWS` are the work of scr_bench.
+//! `run program=ddos threshold=N`, `plain program=NAME` and `crew program=NAME cores=K` read a capture on standard input, and
+//! write the report; `step PROGRAM FLOWS PACKETS`, `lane KIND FRAMES` and `log CORES ROWS` are the work of scr_bench.
 
 mod captures;
+mod crew;
 mod faults;
 mod frames;
+mod logs;
+mod messages;
+mod pause;
 mod plain;
 mod report;
+mod ring;
 mod rows;
 mod shared;
 mod steps;
@@ -34,6 +39,7 @@ fn run_words() -> Result<(), Fault> {
     match command.as_str() {
         "run" => plain::run_counted(operands, input()?, out()?),
         "plain" => plain::run_plain(operands, input()?, out()?),
+        "crew" => crew::run_crew(operands, input()?, out()?),
         "step" => {
             println!("{}", traffic::checksum_of(operands).ok_or(Fault::Words)?);
             Ok(())
