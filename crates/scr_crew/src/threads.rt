@@ -3,7 +3,7 @@ ghost use Rattle.std.specs.List.{range_with_len};
 ghost use Rattle.scr_plan.specs.Counts.{plan_counts};
 ghost use Rattle.scr_log.specs.Layout.{most_slots};
 ghost use Rattle.scr_replica.specs.OneCore.{verdicts, entries};
-ghost use Rattle.scr_replica.specs.Answers.{core_answers};
+ghost use Rattle.scr_replica.specs.Answers.{answer};
 ghost use Rattle.scr_crew.specs.Cores.{OfCores};
 ghost use Rattle.scr_crew.specs.Workers.{IsWorker};
 ghost use Rattle.scr_crew.specs.Threads.{IsThread};
@@ -17,7 +17,7 @@ use scr_feed::Feed;
 use scr_log::{FreePass, Logs};
 use scr_plan::RunPlan;
 use scr_program::Program;
-use scr_replica::{CoreResult, Gate, Gathered, gather, run_phases};
+use scr_replica::{Gate, Gathered, gather, run_phases};
 use std::alloc::Global;
 use std::sync::Wait;
 use std::thread;
@@ -37,10 +37,10 @@ fn lead<P: Program, R: Threads + Wait>(
     mut free: FreePass,
     mut feed: Feed<'_>,
     started: Vec<Started<P>>,
-) -> Result<Option<Vec<CoreResult>>, OutOfMemory>
+) -> Result<Option<Gathered>, OutOfMemory>
     requires free { free.logs ≡ logs.now }
     requires started { OfCores (IsThread settings.now plan.now) (length started.items) started.items }
-    ensures { IfOk result (λ all. IfSome all (λ results. results.items ≡ core_answers (P.verdict_after settings.now) (P.count_after settings.now) plan.now)) }
+    ensures { IfOk result (λ all. IfSome all (λ it. it ≡ answer (P.verdict_after settings.now) (P.count_after settings.now) plan.now)) }
 {
     let all = started.len() == plan.cores() as usize;
     let fed = if all {
@@ -56,10 +56,13 @@ fn lead<P: Program, R: Threads + Wait>(
     if !all {
         return Ok(None);
     }
-    results_of(alloc, answers)
+    match results_of(alloc, answers)? {
+        Some(results) => Ok(Some(gather(alloc, plan, &results)?)),
+        None => Ok(None),
+    }
 }
 
-// All cores in threads, and what each made of the run. None where a core has no thread.
+// All cores in threads, and what they make of the run. None where a core has no thread.
 fn run_crew<P: Program, G: Gate + Sync, R: Threads + Wait + Sync>(
     rt: &R,
     alloc: Global,
@@ -70,20 +73,20 @@ fn run_crew<P: Program, G: Gate + Sync, R: Threads + Wait + Sync>(
     free: FreePass,
     feed: Feed<'_>,
     workers: Vec<Worker>,
-) -> Result<Option<Vec<CoreResult>>, OutOfMemory>
+) -> Result<Option<Gathered>, OutOfMemory>
     requires plan { logs.now.plan ≡ plan.now }
     requires free { free.logs ≡ logs.now }
     requires workers { OfCores (IsWorker logs.now) plan.now.cores workers.items }
-    ensures { IfOk result (λ all. IfSome all (λ results. results.items ≡ core_answers (P.verdict_after settings.now) (P.count_after settings.now) plan.now)) }
+    ensures { IfOk result (λ all. IfSome all (λ it. it ≡ answer (P.verdict_after settings.now) (P.count_after settings.now) plan.now)) }
 {
     thread::scope(
         thread::scope_env(),
         rt,
-        move |scope| -> Result<Option<Vec<CoreResult>>, OutOfMemory>
+        move |scope| -> Result<Option<Gathered>, OutOfMemory>
             requires plan { logs.now.plan ≡ plan.now }
             requires free { free.logs ≡ logs.now }
             requires workers { OfCores (IsWorker logs.now) plan.now.cores workers.items }
-            ensures { IfOk result (λ all. IfSome all (λ results. results.items ≡ core_answers (P.verdict_after settings.entry.now) (P.count_after settings.entry.now) plan.entry.now)) }
+            ensures { IfOk result (λ all. IfSome all (λ it. it ≡ answer (P.verdict_after settings.entry.now) (P.count_after settings.entry.now) plan.entry.now)) }
         {
             let started =
                 start_all::<_, P, G, R>(scope, rt, alloc, settings, plan, logs, gate, workers)?;
@@ -92,18 +95,18 @@ fn run_crew<P: Program, G: Gate + Sync, R: Threads + Wait + Sync>(
     )
 }
 
-// What each core made of the run in threads. None where a core could not be claimed, or has no thread.
-fn results_in_threads<P: Program, G: Gate + Sync, R: Threads + Wait + Sync>(
+// What all cores make of the run in threads. None where a core could not be claimed, or has no thread.
+fn gathered_in_threads<P: Program, G: Gate + Sync, R: Threads + Wait + Sync>(
     rt: &R,
     alloc: Global,
     settings: &P::Settings,
     plan: &RunPlan,
     ring: u32,
     gate: &G,
-) -> Result<Option<Vec<CoreResult>>, OutOfMemory>
+) -> Result<Option<Gathered>, OutOfMemory>
     requires some_slots { 1 ≤ ring }
     requires few_slots { ring ≤ most_slots }
-    ensures { IfOk result (λ all. IfSome all (λ results. results.items ≡ core_answers (P.verdict_after settings.now) (P.count_after settings.now) plan.now)) }
+    ensures { IfOk result (λ all. IfSome all (λ it. it ≡ answer (P.verdict_after settings.now) (P.count_after settings.now) plan.now)) }
 {
     let (logs, mut free) = Logs::make(alloc, plan, ring)?;
     let (feed, ends) = Feed::make(alloc, plan, CAPACITY)?;
@@ -131,8 +134,8 @@ pub fn run_threads<P: Program, G: Gate + Sync, R: Threads + Wait + Sync>(
     ensures cores { IfOk result (λ it. it.cores ≡ map (plan_counts plan.now) (range_with_len 0 plan.now.cores)) }
     ensures flows { IfOk result (λ it. it.flows ≡ entries (P.count_after settings.now) plan.now) }
 {
-    match results_in_threads::<P, G, R>(rt, alloc, settings, plan, ring, gate)? {
-        Some(results) => gather(alloc, plan, &results),
+    match gathered_in_threads::<P, G, R>(rt, alloc, settings, plan, ring, gate)? {
+        Some(gathered) => Ok(gathered),
         None => run_phases::<P>(alloc, settings, plan),
     }
 }
