@@ -4,6 +4,8 @@
 mod feeding;
 mod joining;
 mod open_gate;
+#[cfg(test)]
+mod tests;
 mod threads;
 mod work;
 mod workers;

@@ -62,8 +62,8 @@ fn lead<P: Program, R: Threads + Wait>(
     }
 }
 
-// All cores in threads, and what they make of the run. None where a core has no thread.
-fn run_crew<P: Program, G: Gate + Sync, R: Threads + Wait + Sync>(
+/// The first cores in threads, and what all make of the run. None where a core has no thread.
+pub fn run_crew<P: Program, G: Gate + Sync, R: Threads + Wait + Sync>(
     rt: &R,
     alloc: Global,
     settings: &P::Settings,
@@ -76,7 +76,7 @@ fn run_crew<P: Program, G: Gate + Sync, R: Threads + Wait + Sync>(
 ) -> Result<Option<Gathered>, OutOfMemory>
     requires plan { logs.now.plan ≡ plan.now }
     requires free { free.logs ≡ logs.now }
-    requires workers { OfCores (IsWorker logs.now) plan.now.cores workers.items }
+    requires workers { OfCores (IsWorker logs.now) (length workers.items) workers.items }
     ensures { IfOk result (λ all. IfSome all (λ it. it ≡ answer (P.verdict_after settings.now) (P.count_after settings.now) plan.now)) }
 {
     thread::scope(
@@ -85,7 +85,7 @@ fn run_crew<P: Program, G: Gate + Sync, R: Threads + Wait + Sync>(
         move |scope| -> Result<Option<Gathered>, OutOfMemory>
             requires plan { logs.now.plan ≡ plan.now }
             requires free { free.logs ≡ logs.now }
-            requires workers { OfCores (IsWorker logs.now) plan.now.cores workers.items }
+            requires workers { OfCores (IsWorker logs.now) (length workers.items) workers.items }
             ensures { IfOk result (λ all. IfSome all (λ it. it ≡ answer (P.verdict_after settings.entry.now) (P.count_after settings.entry.now) plan.entry.now)) }
         {
             let started =

@@ -78,7 +78,7 @@ pub fn start_all<'s, E, P: Program + 's, G: Gate + Sync + 's, R: Wait + Sync + '
     workers: Vec<Worker>,
 ) -> Result<Vec<Started<P>>, OutOfMemory>
     requires plan { logs.now.plan ≡ plan.now }
-    requires workers { OfCores (IsWorker logs.now) plan.now.cores workers.items }
+    requires workers { OfCores (IsWorker logs.now) (length workers.items) workers.items }
     ensures { IfOk result (λ started. OfCores (IsThread settings.now plan.now) (length started.items) started.items) }
 {
     let mut started = Vec::with_capacity(alloc, workers.len())?;
