@@ -9,6 +9,7 @@ use std::thread;
 const TURNS: u32 = 10_000_000;
 
 // How many went through one side of the gate: core 0, core 1, and any other.
+#[derive(Drop)]
 struct Side {
     zero: AtomicU64,
     one: AtomicU64,
@@ -55,6 +56,7 @@ impl Side {
 }
 
 /// A gate of one or two cores. On either side each waits until all have come.
+#[derive(Drop)]
 pub struct Meeting {
     cores: u32,
     entered: Side,
