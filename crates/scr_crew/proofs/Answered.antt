@@ -2,7 +2,7 @@
 use Rattle.std.proofs.Common.{◌≡◌, ℕ, ◌+◌, List, [], ◌∷◌, ◌++◌, length, map, Ok, Result, refl, sym, ap, ◌∙◌, subst, arith}
 use Rattle.std.specs.List.{range_with_len}
 use Rattle.std.proofs.lemmas.List.{length-append}
-use Rattle.std.proofs.lemmas.List.FromFn.{map-range_with_len_more}
+use Rattle.std.proofs.lemmas.List.FromFn.{map-range_with_len_more, length-map-range_with_len}
 use Rattle.scr_base.specs.declared.row.Row.{Row}
 use Rattle.scr_base.specs.declared.row.Verdict.{Verdict}
 use Rattle.scr_plan.specs.Plan.{Plan}
@@ -47,3 +47,7 @@ module _ (verdict_after : List Row → Row → Verdict) (count_after : List Row 
       let all = is.coming.all in
       let long : length results ≡ plan.cores = omega (arith, none) in
       is.so_far ∙ ap (λ (k : ℕ). map (core_answer verdict_after count_after plan) (range_with_len 0 k)) long
+
+  pub answers_count : (results : List CoreAnswer) → results ≡ core_answers verdict_after count_after plan → length results ≡ plan.cores
+  answers_count results are =
+      ap length are ∙ length-map-range_with_len (core_answer verdict_after count_after plan) 0 plan.cores

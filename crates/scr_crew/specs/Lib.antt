@@ -1,3 +1,4 @@
 pub mod Cores
 pub mod Workers
 pub mod Answers
+pub mod Threads

@@ -1,8 +1,11 @@
-ghost use Rattle.std.specs.Prelude.{◌≡◌, IfSome};
+ghost use Rattle.std.specs.Prelude.{◌≡◌, length, IfOk, IfSome};
+ghost use Rattle.scr_crew.specs.Cores.{OfCores};
 ghost use Rattle.scr_crew.specs.Workers.{IsWorker};
+ghost use Rattle.scr_crew.specs.Threads.{IsThread};
 ghost use Rattle.scr_crew.specs.Answers.{IsAnswer};
 
 use crate::workers::Worker;
+use scr_base::OutOfMemory;
 use scr_log::Logs;
 use scr_plan::RunPlan;
 use scr_program::Program;
@@ -29,8 +32,8 @@ impl<P: Program> Promise<Result<CoreResult, CoreStop>> for Work<P> {
 /// The thread of a core.
 pub type Started<P> = PromisedHandle<Result<CoreResult, CoreStop>, Work<P>>;
 
-/// Starts the thread of a core. None where no thread can be started.
-pub fn start_worker<'s, E, P: Program + 's, G: Gate + Sync + 's, R: Wait + Sync + 's>(
+// Starts the thread of a core. None where no thread can be started.
+fn start_worker<'s, E, P: Program + 's, G: Gate + Sync + 's, R: Wait + Sync + 's>(
     scope: &Scope<'s, E>,
     rt: &'s R,
     alloc: Global,
@@ -42,9 +45,7 @@ pub fn start_worker<'s, E, P: Program + 's, G: Gate + Sync + 's, R: Wait + Sync 
 ) -> Option<Started<P>>
     requires plan { logs.now.plan ≡ plan.now }
     requires worker { IsWorker logs.now worker.pass.core worker }
-    ensures settings { IfSome result (λ it. it.promise.settings.value ≡ settings.now) }
-    ensures plan { IfSome result (λ it. it.promise.plan.value ≡ plan.now) }
-    ensures core { IfSome result (λ it. it.promise.core ≡ worker.pass.core) }
+    ensures { IfSome result (λ thread. IsThread settings.now plan.now worker.pass.core thread) }
 {
     let core = worker.pass.core();
     let work = Work {
@@ -62,4 +63,34 @@ pub fn start_worker<'s, E, P: Program + 's, G: Gate + Sync + 's, R: Wait + Sync 
             { run_core::<P, G, R>(rt, alloc, settings, lane, pass, logs, gate) },
         )
         .ok()
+}
+
+/// Starts the threads of the cores, in order, and stops at the first that can't be started. It takes no memory of its own
+/// once the first has started.
+pub fn start_all<'s, E, P: Program + 's, G: Gate + Sync + 's, R: Wait + Sync + 's>(
+    scope: &Scope<'s, E>,
+    rt: &'s R,
+    alloc: Global,
+    settings: &'s P::Settings,
+    plan: &RunPlan,
+    logs: &'s Logs,
+    gate: &'s G,
+    workers: Vec<Worker>,
+) -> Result<Vec<Started<P>>, OutOfMemory>
+    requires plan { logs.now.plan ≡ plan.now }
+    requires workers { OfCores (IsWorker logs.now) (length workers.items) workers.items }
+    ensures { IfOk result (λ started. OfCores (IsThread settings.now plan.now) (length started.items) started.items) }
+{
+    let mut started = Vec::with_capacity(alloc, workers.len())?;
+    for worker in workers {
+        let thread =
+            start_worker::<E, P, G, R>(scope, rt, alloc, settings, plan, logs, gate, worker);
+        let Some(thread) = thread else {
+            break;
+        };
+        if started.push(thread).is_err() {
+            break;
+        }
+    }
+    Ok(started)
 }

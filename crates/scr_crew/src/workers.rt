@@ -1,4 +1,4 @@
-ghost use Rattle.std.specs.Prelude.{◌≡◌, ◌+◌, ◌≤◌, IfOk, IfSome};
+ghost use Rattle.std.specs.Prelude.{◌≡◌, ◌+◌, ◌≤◌, length, IfOk, IfSome};
 ghost use Rattle.scr_plan.specs.Limits.{most_cores};
 ghost use Rattle.scr_crew.specs.Cores.{OfCores};
 ghost use Rattle.scr_crew.specs.Workers.{IsNewEnd, IsWorker};
@@ -45,7 +45,8 @@ pub fn claim_all(
     requires stock { most_cores + 1 ≤ free.old.stock }
     requires few { logs.now.plan.cores ≤ most_cores }
     requires ends { OfCores (IsNewEnd logs.now.plan) logs.now.plan.cores ends.items }
-    ensures workers { IfOk result (λ all. IfSome all (λ workers. OfCores (IsWorker logs.now) logs.now.plan.cores workers.items)) }
+    ensures workers { IfOk result (λ all. IfSome all (λ workers. OfCores (IsWorker logs.now) (length workers.items) workers.items)) }
+    ensures all { IfOk result (λ all. IfSome all (λ workers. length workers.items ≡ logs.now.plan.cores)) }
     ensures free { free.new.logs ≡ logs.now }
 {
     let mut workers = Vec::with_capacity(alloc, ends.len())?;

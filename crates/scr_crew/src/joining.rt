@@ -1,16 +1,34 @@
-ghost use Rattle.std.specs.Prelude.{◌≡◌, ℕ, List, IfOk, IfSome};
+ghost use Rattle.std.specs.Prelude.{◌≡◌, ℕ, List, length, IfOk, IfSome};
 ghost use Rattle.scr_base.specs.declared.row.Row.{Row};
 ghost use Rattle.scr_base.specs.declared.row.Verdict.{Verdict};
 ghost use Rattle.scr_plan.specs.Plan.{Plan};
 ghost use Rattle.scr_replica.specs.Answers.{core_answers};
 ghost use Rattle.scr_crew.specs.Cores.{OfCores};
+ghost use Rattle.scr_crew.specs.Threads.{IsThread};
 ghost use Rattle.scr_crew.specs.Answers.{IsAnswer};
 
+use crate::work::Started;
 use scr_base::OutOfMemory;
+use scr_plan::RunPlan;
+use scr_program::Program;
 use scr_replica::{CoreCause, CoreResult, CoreStop};
 use std::alloc::Global;
+use std::thread::{Threads, join_promised};
 
-/// What the cores answered, core by core. None where one of them was halted, and none had no memory.
+/// Joins the threads of the first cores. At `Err` they run to their end all the same.
+pub fn join_all<P: Program, R: Threads>(
+    rt: &R,
+    settings: &P::Settings,
+    plan: &RunPlan,
+    started: Vec<Started<P>>,
+) -> Result<Vec<Result<CoreResult, CoreStop>>, OutOfMemory>
+    requires { OfCores (IsThread settings.now plan.now) (length started.items) started.items }
+    ensures { IfOk result (λ answers. OfCores (IsAnswer (P.verdict_after settings.now) (P.count_after settings.now) plan.now) (length started.items) answers.items) }
+{
+    Ok(join_promised(rt, started)?)
+}
+
+/// What the cores made of the run, core by core. None where one of them was halted, and none had no memory.
 pub fn results_of(
     alloc: Global,
     answers: Vec<Result<CoreResult, CoreStop>>,

@@ -8,7 +8,7 @@ use Rattle.scr_plan.specs.Plan.{Plan}
 use Rattle.scr_crew.specs.Cores.{OfCores}
 use Rattle.scr_crew.specs.Answers.{IsAnswer}
 use Rattle.scr_crew.proofs.Answered.{Answered}
-use Rattle.scr_crew.proofs.ending.results_of.Given as goal
+use Rattle.scr_crew.proofs.joining.results_of.Given as goal
 
 abbrev pub invariant-loop-answer : goal.invariant-loop-answer
 invariant-loop-answer l =

@@ -3,7 +3,7 @@ use Rattle.std.specs.Vec.Iter.{into_iter_items}
 use Rattle.scr_replica.specs.Stops.{Stop}
 use Rattle.scr_replica.specs.Answers.{CoreAnswer}
 use Rattle.scr_crew.proofs.Answered.{Answered, one_answered, all_answered}
-use Rattle.scr_crew.proofs.ending.results_of.Goals as goal
+use Rattle.scr_crew.proofs.joining.results_of.Goals as goal
 
 pub loop-answer-preserved-in-Continue-branch-2 : goal.loop-answer-preserved-in-Continue-branch-2
 loop-answer-preserved-in-Continue-branch-2 c =
