@@ -11,6 +11,7 @@ pub mod LaneItems
 pub mod Taken
 pub mod TakenInOrder
 pub mod Deciding
+pub mod Saying
 pub mod Undivided
 pub mod Counted
 pub mod Numbers
