@@ -12,6 +12,7 @@ pub mod Taken
 pub mod TakenInOrder
 pub mod Deciding
 pub mod Saying
+pub mod WholeTurns
 pub mod Undivided
 pub mod Counted
 pub mod Numbers

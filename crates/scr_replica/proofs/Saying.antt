@@ -127,11 +127,11 @@ module _ (plan : Plan) (core m p : ℕ) (it : Message) (is : slice_get (lane pla
       by (Beacon n) e =
           let lost = beacon-lost n e in
           let number = ap number_of e in
-          none-told (ap before_rows e ∙ sym number) (omega arith) lost.0
+          none-told (let rows : before_rows it ≡ n - 0 = ap before_rows e in omega arith) (let far = lost.1 in omega arith) lost.0
       by (End n) e =
           let lost = end-lost n e in
           let number = ap number_of e in
-          none-told (ap before_rows e ∙ sym number) (omega arith) lost.0
+          none-told (let rows : before_rows it ≡ n - 0 = ap before_rows e in omega arith) (let far = lost.1 in omega arith) lost.0
 
   lost-none : entry_of plan core p ≡ Lost → (delivers_to plan core p ≡ false) × (final_entry plan core p ≡ None)
   lost-none lost =
@@ -199,7 +199,7 @@ module _ (plan : Plan) (core m : ℕ) (it : Message) (is : slice_get (lane plan 
                 let delivered : delivers plan n ≡ true = ((Decides-delivered_to plan core n).0 goes).is.delivered in
                 let decides : decided_by plan it ≡ n = ap (decided_by plan) e ∙ ap (λ (b : Bool). cond b n 0) delivered in
                 let least = decided-under plan core m (few plan core m it is n rows e) in
-                let same : n ≡ decided plan core (m + 1) = omega arith in
+                let same : n ≡ decided plan core (m + 1) = omega (arith, next, decides) in
                 ap (decided_with plan.history (decided plan core m) taken) e
                 ∙ sym (cond_below taken n n (decided plan core m) above) ∙ same)
             | inr late ↦ (
@@ -219,7 +219,7 @@ module _ (plan : Plan) (core m : ℕ) (it : Message) (is : slice_get (lane plan 
           let decides = ap (decided_by plan) e in
           let number = end-number plan core m it is n e in
           let most = decided-le plan core m in
-          let all : n ≡ decided plan core (m + 1) = omega arith in
+          let all : n ≡ decided plan core (m + 1) = omega (arith, next, decides) in
           ap (decided_with plan.history (decided plan core m) taken) e ∙ all
 
   -- the end stands last, and nothing else does
@@ -275,7 +275,7 @@ module _ (plan : Plan) (core m : ℕ) (is_plan : IsPlan plan) where
           → new.decided ≡ decided_with plan.history old.decided old.taken message)
       → new.taken ≡ max old.taken number → (new.whole ≡ true → said ≡ kind.End) → (new.whole ≡ false → said ≡ kind.End → ⊥)
       → new.packet ≡ Some packet → HasHeard plan core (m + 1) new
-  hears packet old new said number shown heard says decides top whole open last =
+  hears packet old new said number shown heard says decides top whole more last =
       let it : Message = shown.message in
       let same = says it shown.spells in
       let taken = heard.taken in
@@ -288,16 +288,16 @@ module _ (plan : Plan) (core m : ℕ) (is_plan : IsPlan plan) where
             top ∙ ap (λ (k : ℕ). max k number) heard.taken ∙ ap (max (greatest_number plan core m)) same.1
             ∙ sym (greatest-next plan core m it shown.stands);
         whole = λ e. end-last plan core m it shown.stands is_plan (sym same.0 ∙ whole e);
-        not_whole = λ e. others-before plan core m it shown.stands is_plan (λ end. open e (same.0 ∙ end));
+        not_whole = λ e. others-before plan core m it shown.stands is_plan (λ end. more e (same.0 ∙ end));
         last = subst (IsLast plan core (m + 1)) (sym last) (m, refl, shown);
       }
 
-  pub hears-nothing : HasHeard plan core 0 (record { packet = None; decided = 0; taken = 0; whole = false })
-  unfolding greatest_number
-  hears-nothing = record {
-    decided = sym (decided-zero plan core);
-    taken = refl;
-    whole = λ e. absurd cc;
-    not_whole = λ e. let all = long plan core in omega arith;
-    last = refl;
-  }
+pub hears-nothing : (plan : Plan) (core : ℕ) → HasHeard plan core 0 (record { packet = None; decided = 0; taken = 0; whole = false })
+unfolding greatest_number
+hears-nothing plan core = record {
+  decided = sym (decided-zero plan core);
+  taken = refl;
+  whole = λ e. absurd cc;
+  not_whole = λ e. let all = long plan core in omega arith;
+  last = refl;
+}

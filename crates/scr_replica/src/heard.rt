@@ -1,7 +1,8 @@
-ghost use Rattle.std.specs.Prelude.{◌≡◌, ◌+◌, ◌-◌, ◌<◌, ◌≤◌, ℕ};
+ghost use Rattle.std.specs.Prelude.{◌≡◌, ◌≢◌, ◌+◌, ◌-◌, ◌<◌, ◌≤◌, ℕ, true, false};
 ghost use Rattle.scr_plan.specs.Plan.{Plan, IsPlan};
 ghost use Rattle.scr_plan.specs.FinalEntry.{final_entry};
 ghost use Rattle.scr_wire.specs.declared.message.Message.{Message};
+ghost use Rattle.scr_wire.specs.declared.message.MessageKind.TheVariants as kinds;
 ghost use Rattle.scr_wire.specs.Spelling.{Spells, kind_of, number_of};
 ghost use Rattle.scr_wire.specs.Lane.{decided};
 ghost use Rattle.scr_lane.specs.Messages.{SpellsMessage, route};
@@ -49,6 +50,18 @@ fn row_in(packet: &Packet, p: u32) -> Option<Row>
         Some(view.row(place as u16))
     } else {
         None
+    }
+}
+
+// Whether it is an end.
+#[inline(always)]
+fn is_end(kind: MessageKind) -> bool
+    ensures end { result ≡ true → kind ≡ kinds.End }
+    ensures other { result ≡ false → kind ≢ kinds.End }
+{
+    match kind {
+        MessageKind::Frame | MessageKind::Beacon => false,
+        MessageKind::End => true,
     }
 }
 
@@ -114,7 +127,7 @@ impl Heard {
         let (kind, number) = said_by(&packet);
         self.decided = decided_by(self, kind, number, history);
         self.taken = self.taken.max(number);
-        self.whole = kind == MessageKind::End;
+        self.whole = is_end(kind);
         self.packet = Some(packet);
     }
 
