@@ -9,12 +9,15 @@ use Rattle.scr_plan.specs.declared.given.Given.{Given}
 use Rattle.scr_plan.specs.Plan.{Plan, frame_count}
 use Rattle.scr_plan.specs.Delivered.{delivers_to}
 use Rattle.scr_plan.specs.FinalEntry.{final_entry}
-use Rattle.scr_wire.specs.Lane.{decided}
-use Rattle.scr_lane.specs.Messages.{Route}
-use Rattle.scr_lane.specs.Ends.{End, FoundNothing}
+use Rattle.scr_plan.specs.Counts.{counts_up_to}
+use Rattle.scr_wire.specs.declared.message.Message.TheVariants.{End as EndOf}
+use Rattle.scr_wire.specs.Lane.{lane, decided}
+use Rattle.scr_wire.proofs.Decides.{decided-zero, decided-suc, decided-le, decided-whole}
+use Rattle.scr_lane.specs.Messages.{Route, message_count}
+use Rattle.scr_lane.specs.Ends.{End, HasLooked}
 use Rattle.scr_log.specs.declared.view.Noted.{Noted}
 use Rattle.scr_log.specs.declared.view.Noted.TheVariants.{Halt}
-use Rattle.scr_log.specs.Passes.{LogsOf, OfCore, looked}
+use Rattle.scr_log.specs.Passes.{LogsOf, IsLogs, OfCore, looked}
 use Rattle.scr_log.specs.Answers.{EndsWith}
 use Rattle.scr_replica.specs.declared.heard.Heard.{Heard}
 use Rattle.scr_replica.specs.declared.standing.Standing.{Standing}
@@ -24,9 +27,23 @@ use Rattle.scr_replica.specs.declared.turn.Turn.TheVariants.{Moved, Verdict as G
 use Rattle.scr_replica.specs.declared.turn.Pending.{Pending}
 use Rattle.scr_replica.specs.declared.turn.Pending.TheVariants.{Empty, NotYet, NoRoom}
 use Rattle.scr_replica.specs.OneCore.{kept_rows, course_up_to}
-use Rattle.scr_replica.specs.Replicas.{Replica, Stands, IsReplica, at_hand, asked}
+use Rattle.scr_replica.specs.Replicas.{Replica, Begin, Stands, IsThrough, IsReplica, at_hand, asked}
 use Rattle.scr_replica.specs.Turns.{HasMoreLooks, HasAdded, GoesOn, Moves, WaitsFor, Answers, TurnTells, GivesVerdict, given_in}
-use Rattle.scr_replica.specs.Stages.{HasOnlyLooked, Rests, IsTurn, Keeps}
+use Rattle.scr_replica.specs.Heard.{HasHeard}
+use Rattle.scr_replica.specs.Stages.{replica_of, HasOnlyLooked, Rests, IsTurn, Keeps}
+
+counts-zero : (plan : Plan) (core : ℕ) → counts_up_to plan core 0 ≡ record { delivered = 0; carried = 0; recovered = 0; skipped = 0 }
+counts-zero plan core = refl
+
+-- looks are added behind those of another
+pub more-looks : (a b d : OfCore) → HasMoreLooks a b → HasMoreLooks b d → HasMoreLooks a d
+more-looks a b d ab bd = (ab.0 ++ bd.0, bd.1 ∙ ap (λ (xs : List Noted). xs ++ bd.0) ab.1 ∙ append_assoc a.looks ab.0 bd.0)
+
+pub added-more : (a b d : OfCore) (look : Noted) → HasAdded a b look → HasMoreLooks b d → HasAdded a d look
+added-more a b d look ab bd = (ab.0, ab.1 ++ bd.0, bd.1 ∙ ap (λ (xs : List Noted). xs ++ bd.0) ab.2 ∙ simp append_assoc)
+
+pub ends-more : (a b d : OfCore) (look : Noted) → HasMoreLooks a b → d.looks ≡ b.looks ++ look ∷ [] → EndsWith a d look
+ends-more a b d look ab bd = (ab.0, bd ∙ ap (λ (xs : List Noted). xs ++ look ∷ []) ab.1)
 
 module _ {State : Type 0} where
   -- nothing was looked at
@@ -40,24 +57,6 @@ module _ {State : Type 0} where
     lost_to = refl;
     standing = refl;
   }
-
-  -- looks are added behind those of another
-  pub more-looks : (a b d : OfCore) → HasMoreLooks a b → HasMoreLooks b d → HasMoreLooks a d
-  more-looks a b d ab bd =
-      (ab.0 ++ bd.0, bd.1 ∙ ap (λ (xs : List Noted). xs ++ bd.0) ab.1 ∙ append_assoc a.looks ab.0 bd.0)
-
-  pub added-more : (a b d : OfCore) (look : Noted) → HasAdded a b look → HasMoreLooks b d → HasAdded a d look
-  added-more a b d look ab bd = (
-    ab.0,
-    ab.1 ++ bd.0,
-    bd.1
-        ∙ ap (λ (xs : List Noted). xs ++ bd.0) ab.2
-        ∙ append_assoc a.looks (ab.0 ++ look ∷ ab.1) bd.0
-        ∙ ap (λ (xs : List Noted). a.looks ++ xs) (append_assoc ab.0 (look ∷ ab.1) bd.0),
-  )
-
-  pub ends-more : (a b d : OfCore) (look : Noted) → HasMoreLooks a b → d.looks ≡ b.looks ++ look ∷ [] → EndsWith a d look
-  ends-more a b d look ab bd = (ab.0, bd ∙ ap (λ (xs : List Noted). xs ++ look ∷ []) ab.1)
 
   -- a turn that has only looked goes on
   goes-looked : (old mid : Replica State) → HasOnlyLooked old mid → GoesOn old mid
@@ -80,57 +79,47 @@ module _ {State : Type 0} where
 
   -- a wait is over or goes on, where the halt word was looked at last
   module _ (before mid : Replica State) (has : HasOnlyLooked before mid) (running : mid.standing ≡ standing.Running) (value : ℕ) where
-    abbrev pub halted_at : Standing → Replica State
-    halted_at how = record mid { pass = looked mid.pass (Halt value); standing = how }
+    abbrev pub with_halt : Replica State
+    with_halt = record mid { pass = looked mid.pass (Halt value) }
 
     more-halt : HasMoreLooks mid.pass (looked mid.pass (Halt value))
     more-halt = (Halt value ∷ [], refl)
 
-    looks-on : HasOnlyLooked before (halted_at standing.Running)
+    looks-on : HasOnlyLooked before with_halt
     looks-on = record {
       lane = has.lane;
-      pass =
-          ap (λ (p : OfCore). looked p (Halt value)) has.pass;
+      pass = ap (λ (p : OfCore). looked p (Halt value)) has.pass;
       looks = more-looks before.pass mid.pass (looked mid.pass (Halt value)) has.looks more-halt;
       state = has.state;
       counts = has.counts;
       lost_to = has.lost_to;
-      standing = sym running ∙ has.standing;
+      standing = has.standing;
     }
 
-    pub waits-on : (pending : Pending) → WaitsFor before mid pending → Rests before (halted_at standing.Running) (Waiting pending)
+    pub waits-on : (pending : Pending) → WaitsFor before mid pending → Rests before with_halt (Waiting pending)
     waits-on pending waits = record {
       state = has.state;
       finished = ap (λ (p : OfCore). p.finished) has.pass;
       none = refl;
       tells = record {
-        goes_on = goes-looked before (halted_at standing.Running) looks-on;
-        running = λ was. (refl, by pending waits);
+        goes_on = goes-looked before with_halt looks-on;
+        running = λ was. (running, by pending waits);
         stopped = λ not. absurd (not (sym has.standing ∙ running));
       };
     }
       where
-        by : (pending : Pending) → WaitsFor before mid pending → WaitsFor before (halted_at standing.Running) pending
+        by : (pending : Pending) → WaitsFor before mid pending → WaitsFor before with_halt pending
         by Empty w = w
         by (NotYet core tag) w = (w.0, w.1, w.2, w.3, w.4, added-more before.pass mid.pass (looked mid.pass (Halt value)) _ w.5 more-halt)
         by (NoRoom core done) w = (w.0, w.1, w.2, w.3, added-more before.pass mid.pass (looked mid.pass (Halt value)) _ w.4 more-halt)
 
-    pub waits-halted : value ≡ 1 → Rests before (halted_at standing.Halted) Halted
+    pub waits-halted : value ≡ 1 → Rests before (record with_halt { standing = standing.Halted }) Halted
     waits-halted one = record {
       state = has.state;
       finished = ap (λ (p : OfCore). p.finished) has.pass;
       none = refl;
       tells = record {
-        goes_on = goes;
-        running = λ was. (refl, subst (λ (v : ℕ). EndsWith before.pass (looked mid.pass (Halt value)) (Halt v)) one (ends-more before.pass mid.pass (looked mid.pass (Halt value)) (Halt value) has.looks refl));
-        stopped = λ not. absurd (not (sym has.standing ∙ running));
-      };
-    }
-      where
-        on : GoesOn before (halted_at standing.Running)
-        on = goes-looked before (halted_at standing.Running) looks-on
-        goes : GoesOn before (halted_at standing.Halted)
-        goes = record {
+        goes_on = record {
           lane = on.lane;
           pass = on.pass;
           looks = on.looks;
@@ -138,14 +127,315 @@ module _ {State : Type 0} where
           published = on.published;
           finished = on.finished;
           one = on.one;
-        }
+        };
+        running = λ was. (refl, subst (λ (v : ℕ). EndsWith before.pass (looked mid.pass (Halt value)) (Halt v)) one (ends-more before.pass mid.pass (looked mid.pass (Halt value)) (Halt value) has.looks refl));
+        stopped = λ not. absurd (not (sym has.standing ∙ running));
+      };
+    }
+      where
+        on : GoesOn before with_halt
+        on = goes-looked before with_halt looks-on
 
   -- ---- what a replica keeps, part by part
 
-  module _ (h : Heard) (row : Option Row) (done k history : ℕ) where
+  module _ (it : Replica State) (h : Heard) (row : Option Row) (done k history : ℕ) (was : Keeps it h row done k history) where
+    abbrev plan : Plan
+    plan = it.pass.logs.plan
+
+    abbrev core : ℕ
+    core = it.pass.core
+
     -- looks change nothing of it
-    pub keeps-looked : (old new : Replica State) → HasOnlyLooked old new → Keeps old h row done k history → Keeps new h row done k history
-    keeps-looked old new has was = ?
+    pub keeps-looks : (lane_looks noted : List ℕ) (looks : List Noted) (how : Standing) → how ≢ standing.Ended
+        → Keeps (record it { lane = record it.lane { looks = lane_looks }; pass = record it.pass { noted = noted; looks = looks }; standing = how }) h row done k history
+    keeps-looks lane_looks noted looks how goes =
+        let is = was.replica in
+        record {
+          replica = record {
+            is_logs = is.is_logs;
+            core = is.core;
+            its_lane = is.its_lane;
+            published = is.published;
+            finished = is.finished;
+            one_more = is.one_more;
+            counts = is.counts;
+            lost = is.lost;
+            through = λ ended. absurd (goes ended);
+          };
+          heard = was.heard;
+          earlier = was.earlier;
+          row = was.row;
+          finished = was.finished;
+          cores = was.cores;
+          history = was.history;
+          few_lost = was.few_lost;
+        }
+
+    -- the same where it stands as it did
+    pub keeps-more_looks : (looks : List Noted) → Keeps (record it { pass = record it.pass { looks = looks } }) h row done k history
+    keeps-more_looks looks =
+        let is = was.replica in
+        record {
+          replica = record {
+            is_logs = is.is_logs;
+            core = is.core;
+            its_lane = is.its_lane;
+            published = is.published;
+            finished = is.finished;
+            one_more = is.one_more;
+            counts = is.counts;
+            lost = is.lost;
+            through = is.through;
+          };
+          heard = was.heard;
+          earlier = was.earlier;
+          row = was.row;
+          finished = was.finished;
+          cores = was.cores;
+          history = was.history;
+          few_lost = was.few_lost;
+        }
+
+    -- its lane was taken whole, and all is finished
+    pub through-all : h.whole ≡ true → it.pass.finished ≡ decided plan core it.lane.count → IsThrough it
+    through-all whole all =
+        let is = was.replica in
+        let last : it.lane.count ≡ length (lane plan core) = was.heard.whole whole in
+        (
+          last ∙ sym (ap message_count is.its_lane),
+          all ∙ decided-whole plan core it.lane.count (omega arith),
+        )
+
+    pub keeps-ended : IsThrough it → Keeps (record it { standing = standing.Ended }) h row done k history
+    keeps-ended through =
+        let is = was.replica in
+        record {
+          replica = record {
+            is_logs = is.is_logs;
+            core = is.core;
+            its_lane = is.its_lane;
+            published = is.published;
+            finished = is.finished;
+            one_more = is.one_more;
+            counts = is.counts;
+            lost = is.lost;
+            through = λ ended. through;
+          };
+          heard = was.heard;
+          earlier = was.earlier;
+          row = was.row;
+          finished = was.finished;
+          cores = was.cores;
+          history = was.history;
+          few_lost = was.few_lost;
+        }
+
+    -- more is to come in its lane
+    pub more-comes : h.whole ≡ false → it.lane.count < message_count it.lane.about
+    more-comes open_end =
+        let is = was.replica in
+        let less = was.heard.not_whole open_end in
+        subst (λ (r : Route). it.lane.count < message_count r) (sym is.its_lane) less
+
+    module _ (goes : it.standing ≢ standing.Ended) where
+      -- one message more
+      pub keeps-taken : (lane_looks : List ℕ) (next : Heard) → it.pass.finished ≡ decided plan core it.lane.count
+          → it.lane.count < length (lane plan core) → HasHeard plan core (it.lane.count + 1) next
+          → Keeps (record it { lane = record it.lane { count = it.lane.count + 1; looks = lane_looks } }) next row done k history
+      keeps-taken lane_looks next all within heard =
+          let is = was.replica in
+          let m : ℕ = it.lane.count in
+          let more = decided-suc plan core m (EndOf 0) within in
+          let back : m + 1 - 1 ≡ m = omega arith in
+          let up = is.published in
+          record {
+            replica = record {
+              is_logs = is.is_logs;
+              core = is.core;
+              its_lane = is.its_lane;
+              published = omega (arith, more, up);
+              finished = is.finished;
+              one_more = is.one_more;
+              counts = is.counts;
+              lost = is.lost;
+              through = λ ended. absurd (goes ended);
+            };
+            heard = heard;
+            earlier = omega (arith, ap (decided plan core) back, all);
+            row = was.row;
+            finished = was.finished;
+            cores = was.cores;
+            history = was.history;
+            few_lost = was.few_lost;
+          }
+
+      -- the packet at hand published
+      pub keeps-published : (noted : List ℕ) (looks : List Noted) (p : ℕ) (own : Option Row) → p ≡ at_hand it → it.pass.published ≡ it.pass.finished
+          → p ≤ decided plan core it.lane.count → own ≡ final_entry plan core p
+          → Keeps (record it { pass = record it.pass { published = p; noted = noted; looks = looks } }) h own done k history
+      keeps-published noted looks p own hand idle few is_own =
+          let is = was.replica in
+          record {
+            replica = record {
+              is_logs = is.is_logs;
+              core = is.core;
+              its_lane = is.its_lane;
+              published = few;
+              finished = omega arith;
+              one_more = omega arith;
+              counts = is.counts;
+              lost = is.lost;
+              through = λ ended. absurd (goes ended);
+            };
+            heard = was.heard;
+            earlier = was.earlier;
+            row = λ same. is_own ∙ ap (final_entry plan core) hand;
+            finished = was.finished;
+            cores = was.cores;
+            history = was.history;
+            few_lost = was.few_lost;
+          }
+
+      -- the packet at hand finished
+      pub keeps-finished : (state : State) (counts : CoreCounts) (p : ℕ) → p ≡ at_hand it → it.pass.published ≡ at_hand it
+          → counts ≡ counts_up_to plan core p
+          → Keeps (record it { state = state; counts = counts; lost_to = 0; pass = record it.pass { finished = p } }) h row p k history
+      keeps-finished state counts p hand published counted =
+          let is = was.replica in
+          let before = was.earlier in
+          record {
+            replica = record {
+              is_logs = is.is_logs;
+              core = is.core;
+              its_lane = is.its_lane;
+              published = is.published;
+              finished = omega arith;
+              one_more = omega arith;
+              counts = counted;
+              lost = λ i none. absurd (omega arith);
+              through = λ ended. absurd (goes ended);
+            };
+            heard = was.heard;
+            earlier = omega arith;
+            row = λ same. absurd (omega arith);
+            finished = refl;
+            cores = was.cores;
+            history = was.history;
+            few_lost = omega arith;
+          }
+
+      -- a core more was seen to have lost the packet at hand
+      pub keeps-lost : (looks : List Noted) (lost_to : ℕ) → lost_to ≤ plan.cores
+          → ((i : ℕ) → i < lost_to → final_entry plan (asked plan (at_hand it) i) (at_hand it) ≡ None)
+          → Keeps (record it { pass = record it.pass { looks = looks }; lost_to = lost_to }) h row done k history
+      keeps-lost looks lost_to few lost =
+          let is = was.replica in
+          record {
+            replica = record {
+              is_logs = is.is_logs;
+              core = is.core;
+              its_lane = is.its_lane;
+              published = is.published;
+              finished = is.finished;
+              one_more = is.one_more;
+              counts = is.counts;
+              lost = lost;
+              through = λ ended. absurd (goes ended);
+            };
+            heard = was.heard;
+            earlier = was.earlier;
+            row = was.row;
+            finished = was.finished;
+            cores = was.cores;
+            history = was.history;
+            few_lost = few;
+          }
+
+    -- ---- what moves tell
+
+    pub goes-taken : (lane_looks : List ℕ) → it.standing ≡ standing.Running
+        → Rests it (record it { lane = record it.lane { count = it.lane.count + 1; looks = lane_looks } }) Moved
+    goes-taken lane_looks running = record {
+      state = refl;
+      finished = refl;
+      none = refl;
+      tells = record {
+        goes_on = record {
+          lane = refl;
+          pass = refl;
+          looks = ([], sym (append-nil it.pass.looks));
+          taken = omega arith;
+          published = omega arith;
+          finished = omega arith;
+          one = omega arith;
+        };
+        running = λ was. (running, inl (omega arith));
+        stopped = λ not. absurd (not running);
+      };
+    }
+
+    pub goes-ended : it.standing ≡ standing.Running → Rests it (record it { standing = standing.Ended }) Ended
+    goes-ended running = record {
+      state = refl;
+      finished = refl;
+      none = refl;
+      tells = record {
+        goes_on = record {
+          lane = refl;
+          pass = refl;
+          looks = ([], sym (append-nil it.pass.looks));
+          taken = omega arith;
+          published = omega arith;
+          finished = omega arith;
+          one = omega arith;
+        };
+        running = λ was. refl;
+        stopped = λ not. absurd (not running);
+      };
+    }
+
+    pub goes-published : (noted : List ℕ) (more : List Noted) (p : ℕ) → p ≡ at_hand it → it.pass.published ≡ it.pass.finished
+        → it.standing ≡ standing.Running
+        → Rests it (record it { pass = record it.pass { published = p; noted = noted; looks = it.pass.looks ++ more } }) Moved
+    goes-published noted more p hand idle running = record {
+      state = refl;
+      finished = refl;
+      none = refl;
+      tells = record {
+        goes_on = record {
+          lane = refl;
+          pass = refl;
+          looks = (more, refl);
+          taken = omega arith;
+          published = omega arith;
+          finished = omega arith;
+          one = omega arith;
+        };
+        running = λ was. (running, inr (inl (omega arith)));
+        stopped = λ not. absurd (not running);
+      };
+    }
+
+    pub goes-lost : (more : List Noted) (lost_to : ℕ) → it.lost_to < lost_to → it.standing ≡ standing.Running
+        → Rests it (record it { pass = record it.pass { looks = it.pass.looks ++ more }; lost_to = lost_to }) Moved
+    goes-lost more lost_to less running = record {
+      state = refl;
+      finished = refl;
+      none = refl;
+      tells = record {
+        goes_on = record {
+          lane = refl;
+          pass = refl;
+          looks = (more, refl);
+          taken = omega arith;
+          published = omega arith;
+          finished = omega arith;
+          one = omega arith;
+        };
+        running = λ was. (running, inr (inr (inr (refl, refl, refl, less))));
+        stopped = λ not. absurd (not running);
+      };
+    }
 
   -- ---- whole turns
 
@@ -166,3 +456,56 @@ module _ {State : Type 0} where
               ∙ ap (λ (o : Option Given). course_up_to verdict_after old.pass.logs.plan old.pass.core old.pass.finished ++ option_to_list o) (sym rests.none);
           tells = rests.tells;
         }
+
+  -- ---- the begin
+
+  pub keeps-begin : (lane : End Route) (pass : OfCore) (state : State) (h : Heard) → Begin lane pass → IsLogs pass.logs
+      → pass.core < pass.logs.plan.cores → HasHeard pass.logs.plan pass.core 0 h → (k history : ℕ) → k ≡ pass.logs.plan.cores
+      → history ≡ pass.logs.plan.history
+      → Keeps (replica_of lane pass state (record { delivered = 0; carried = 0; recovered = 0; skipped = 0 }) 0 standing.Running) h None 0 k history
+  keeps-begin lane pass state h begin is_logs below heard k history cores carried =
+      let published = begin.unpublished in
+      let finished = begin.unfinished in
+      let untaken = begin.untaken in
+      let nothing = decided-zero pass.logs.plan pass.core in
+      let back : lane.count - 1 ≡ 0 = omega arith in
+      record {
+        replica = record {
+          is_logs = is_logs;
+          core = below;
+          its_lane = begin.its_lane;
+          published = omega arith;
+          finished = omega arith;
+          one_more = omega arith;
+          counts = sym (ap (counts_up_to pass.logs.plan pass.core) finished ∙ counts-zero pass.logs.plan pass.core);
+          lost = λ i none. absurd (omega arith);
+          through = λ ended. absurd cc;
+        };
+        heard = subst (λ (m : ℕ). HasHeard pass.logs.plan pass.core m h) (sym untaken) heard;
+        earlier = omega (arith, ap (decided pass.logs.plan pass.core) back, nothing);
+        row = λ same. absurd (omega arith);
+        finished = sym finished;
+        cores = cores;
+        history = carried;
+        few_lost = omega arith;
+      }
+
+  -- ---- small facts
+
+  pub going : (it : Replica State) → it.standing ≡ standing.Running → it.standing ≢ standing.Ended
+  going it running ended = let e : standing.Running ≡ standing.Ended = sym running ∙ ended in absurd cc
+
+  pub looked-lane : (old new : End Route) → HasLooked old new → new ≡ record old { looks = new.looks }
+  looked-lane old new (inl same) = same ∙ ap (λ (l : List ℕ). record old { looks = l }) (sym (ap (λ (e : End Route). e.looks) same))
+  looked-lane old new (inr found) =
+      found.1 ∙ ap (λ (l : List ℕ). record old { looks = l }) (sym (ap (λ (e : End Route). e.looks) found.1))
+
+  -- the packet at hand has a small number
+  pub few-hand : (it : Replica State) (p : ℕ) → IsReplica it → p ≤ decided it.pass.logs.plan it.pass.core it.lane.count → p ≤ 1000000
+  few-hand it p is le =
+      let most = decided-le it.pass.logs.plan it.pass.core it.lane.count in
+      let rows = is.is_logs.plan.few_rows in
+      omega arith
+
+  pub within-run : (it : Replica State) (p : ℕ) → p ≤ decided it.pass.logs.plan it.pass.core it.lane.count → p ≤ frame_count it.pass.logs.plan
+  within-run it p le = let most = decided-le it.pass.logs.plan it.pass.core it.lane.count in omega arith
