@@ -1,6 +1,8 @@
 -- What the parts of a turn tell of the whole turn.
 use Rattle.std.proofs.Common.{◌≡◌, ◌≢◌, ℕ, ◌+◌, ◌-◌, ◌<◌, ◌≤◌, Bool, true, false, cond, ◌&&◌, List, [], ◌∷◌, ◌++◌, length, Option, Some, None, inl, inr, arith, refl, sym, ap, subst, ◌∙◌, eqb, option_to_list, append_assoc}
-use Rattle.std.specs.Prelude.{is_some}
+use Rattle.std.specs.Prelude.{is_some, IfSome}
+use Rattle.std.specs.Option.{option_map}
+use Rattle.scr_base.specs.declared.out_of_memory.OutOfMemory.{OutOfMemory as OfMemory}
 use Rattle.std.proofs.lemmas.List.{append-nil}
 use Rattle.scr_base.specs.declared.row.Row.{Row}
 use Rattle.scr_base.specs.declared.row.Verdict.{Verdict}
@@ -8,6 +10,7 @@ use Rattle.scr_plan.specs.declared.counting.CoreCounts.{CoreCounts}
 use Rattle.scr_plan.specs.declared.given.Given.{Given}
 use Rattle.scr_plan.specs.Plan.{Plan, frame_count}
 use Rattle.scr_plan.specs.Delivered.{delivers_to}
+use Rattle.scr_plan.specs.Kept.{carries_to}
 use Rattle.scr_plan.specs.FinalEntry.{final_entry}
 use Rattle.scr_plan.specs.Counts.{counts_up_to}
 use Rattle.scr_wire.specs.declared.message.Message.TheVariants.{End as EndOf}
@@ -26,11 +29,14 @@ use Rattle.scr_replica.specs.declared.turn.Turn.{Turn}
 use Rattle.scr_replica.specs.declared.turn.Turn.TheVariants.{Moved, Verdict as Gives, Waiting, Ended, Halted, OutOfMemory}
 use Rattle.scr_replica.specs.declared.turn.Pending.{Pending}
 use Rattle.scr_replica.specs.declared.turn.Pending.TheVariants.{Empty, NotYet, NoRoom}
-use Rattle.scr_replica.specs.OneCore.{kept_rows, course_up_to}
+use Rattle.scr_replica.specs.OneCore.{kept_row, kept_rows, course_up_to}
 use Rattle.scr_replica.specs.Replicas.{Replica, Begin, Stands, IsThrough, IsReplica, at_hand, asked}
-use Rattle.scr_replica.specs.Turns.{HasMoreLooks, HasAdded, GoesOn, Moves, WaitsFor, Answers, TurnTells, GivesVerdict, given_in}
+use Rattle.scr_replica.specs.Turns.{answer_of, HasMoreLooks, HasAdded, GoesOn, Moves, WaitsFor, Answers, TurnTells, GivesVerdict, given_in}
 use Rattle.scr_replica.specs.Heard.{HasHeard}
-use Rattle.scr_replica.specs.Stages.{replica_of, HasOnlyLooked, Rests, IsTurn, Keeps}
+use Rattle.scr_replica.proofs.Packets.{row_in-entry_with, is_some-entry}
+use Rattle.scr_replica.proofs.Saying.{own-of}
+use Rattle.scr_replica.proofs.Taking.{kept_rows-more, course-more, given_kept}
+use Rattle.scr_replica.specs.Stages.{replica_of, turn_of, HasOnlyLooked, Rests, IsTurn, Keeps}
 
 counts-zero : (plan : Plan) (core : ℕ) → counts_up_to plan core 0 ≡ record { delivered = 0; carried = 0; recovered = 0; skipped = 0 }
 counts-zero plan core = refl
@@ -44,6 +50,25 @@ added-more a b d look ab bd = (ab.0, ab.1 ++ bd.0, bd.1 ∙ ap (λ (xs : List No
 
 pub ends-more : (a b d : OfCore) (look : Noted) → HasMoreLooks a b → d.looks ≡ b.looks ++ look ∷ [] → EndsWith a d look
 ends-more a b d look ab bd = (ab.0, bd ∙ ap (λ (xs : List Noted). xs ++ look ∷ []) ab.1)
+
+pub looked-lane : (old new : End Route) → HasLooked old new → new ≡ record old { looks = new.looks }
+looked-lane old new (inl same) = same ∙ ap (λ (l : List ℕ). record old { looks = l }) (sym (ap (λ (e : End Route). e.looks) same))
+looked-lane old new (inr found) =
+    found.1 ∙ ap (λ (l : List ℕ). record old { looks = l }) (sym (ap (λ (e : End Route). e.looks) found.1))
+
+given-of : (given : Option Given) → given ≡ given_in (turn_of given)
+given-of None = refl
+given-of (Some g) = refl
+
+-- a verdict that is given has the packet's number
+number-of : (p : ℕ) (verdict : Row → Verdict) (given : Option Given) (own : Bool) (row : Option Row)
+    → option_to_list given ≡ cond own (option_to_list (option_map (λ r. record { number = p; verdict = verdict r }) row)) [] → IfSome given (λ g. g.number ≡ p)
+number-of p verdict None own row e = tt
+number-of p verdict (Some g) false row e = absurd cc
+number-of p verdict (Some g) true None e = absurd cc
+number-of p verdict (Some g) true (Some r) e =
+    let same : g ≡ record { number = p; verdict = verdict r } = cc in
+    ap (λ (x : Given). x.number) same
 
 module _ {State : Type 0} where
   -- nothing was looked at
@@ -457,6 +482,117 @@ module _ {State : Type 0} where
           tells = rests.tells;
         }
 
+    -- one that isn't running any more
+    pub turn-stopped : (it : Replica State) (answer : Turn) → it.standing ≢ standing.Running → answer ≡ answer_of it.standing → given_in answer ≡ None
+        → Stands StandsFor it → IsTurn StandsFor verdict_after it it answer
+    turn-stopped it answer stopped is none stands = record {
+      stands = stands;
+      verdict =
+          sym (append-nil (course_up_to verdict_after it.pass.logs.plan it.pass.core it.pass.finished))
+          ∙ ap (λ (o : Option Given). course_up_to verdict_after it.pass.logs.plan it.pass.core it.pass.finished ++ option_to_list o) (sym none);
+      tells = record {
+        goes_on = goes-looked it it (looked-not it);
+        running = λ was. absurd (stopped was);
+        stopped = λ not. (refl, is);
+      };
+    }
+
+    module _ (before it : Replica State) (has : HasOnlyLooked before it) (running : it.standing ≡ standing.Running) where
+      logs_are : it.pass.logs ≡ before.pass.logs
+      logs_are = ap (λ (p : OfCore). p.logs) has.pass
+
+      was_running : before.standing ≡ standing.Running
+      was_running = sym has.standing ∙ running
+
+      on : GoesOn before it
+      on = goes-looked before it has
+
+      -- there was no memory for the step
+      pub turn-failed : (state : State) (error : OfMemory) → StandsFor state (kept_rows it.pass.logs.plan it.pass.finished)
+          → IsTurn StandsFor verdict_after before (record it { state = state; standing = standing.OutOfMemory error }) (OutOfMemory error)
+      turn-failed state error stands =
+          let finished = ap (λ (p : OfCore). p.finished) has.pass in
+          record {
+            stands = stands;
+            verdict =
+                ap (course_up_to verdict_after before.pass.logs.plan before.pass.core) finished
+                ∙ sym (append-nil (course_up_to verdict_after before.pass.logs.plan before.pass.core before.pass.finished));
+            tells = record {
+              goes_on = record {
+                lane = on.lane;
+                pass = on.pass;
+                looks = on.looks;
+                taken = on.taken;
+                published = on.published;
+                finished = on.finished;
+                one = on.one;
+              };
+              running = λ was. refl;
+              stopped = λ not. absurd (not was_running);
+            };
+          }
+
+      -- the packet at hand was finished
+      module _ (state : State) (counts : CoreCounts) (p : ℕ) (hand : p ≡ at_hand it) where
+        abbrev done_with : Replica State
+        done_with = record it { state = state; counts = counts; lost_to = 0; pass = record it.pass { finished = p } }
+
+        finished_is : it.pass.finished ≡ before.pass.finished
+        finished_is = ap (λ (q : OfCore). q.finished) has.pass
+
+        goes-done : GoesOn before done_with
+        goes-done = record {
+          lane = on.lane;
+          pass = ap (λ (q : OfCore). record q { finished = p }) on.pass;
+          looks = on.looks;
+          taken = on.taken;
+          published = on.published;
+          finished = let same = finished_is in omega arith;
+          one = let same = finished_is in omega arith;
+        }
+
+        pub turn-finished : (given : Option Given) → StandsFor state (kept_rows it.pass.logs.plan p)
+            → course_up_to verdict_after it.pass.logs.plan it.pass.core p
+                ≡ course_up_to verdict_after it.pass.logs.plan it.pass.core it.pass.finished ++ option_to_list given
+            → IfSome given (λ g. g.number ≡ p) → IsTurn StandsFor verdict_after before done_with (turn_of given)
+        turn-finished given stands verdict number = record {
+          stands = stands;
+          verdict = told given verdict;
+          tells = record {
+            goes_on = goes-done;
+            running = λ was. by given number;
+            stopped = λ not. absurd (not was_running);
+          };
+        }
+          where
+            told : (given : Option Given)
+                → course_up_to verdict_after it.pass.logs.plan it.pass.core p
+                    ≡ course_up_to verdict_after it.pass.logs.plan it.pass.core it.pass.finished ++ option_to_list given
+                → GivesVerdict verdict_after before done_with (turn_of given)
+            told given e =
+                subst (λ (q : OfCore). course_up_to verdict_after q.logs.plan q.core p ≡ course_up_to verdict_after q.logs.plan q.core q.finished ++ option_to_list (given_in (turn_of given)))
+                has.pass (e ∙ ap (λ (o : Option Given). course_up_to verdict_after it.pass.logs.plan it.pass.core it.pass.finished ++ option_to_list o) (given-of given))
+            by : (given : Option Given) → IfSome given (λ g. g.number ≡ p) → Answers before done_with (turn_of given)
+            by None number = (running, inr (inr (inl (let same = finished_is in omega arith))))
+            by (Some g) number = (running, number)
+
+      -- the packet at hand, taken by its kept row
+      pub finishes : (state : State) (counts : CoreCounts) (p : ℕ) → p ≡ at_hand it → (given : Option Given) (row : Option Row) (own : Bool)
+          → p ≤ frame_count it.pass.logs.plan → row ≡ kept_row it.pass.logs.plan p → own ≡ delivers_to it.pass.logs.plan it.pass.core p
+          → StandsFor state (kept_rows it.pass.logs.plan it.pass.finished ++ option_to_list row)
+          → option_to_list given ≡ cond own (option_to_list (option_map (λ r. record { number = p; verdict = verdict_after (kept_rows it.pass.logs.plan it.pass.finished) r }) row)) []
+          → IsTurn StandsFor verdict_after before (record it { state = state; counts = counts; lost_to = 0; pass = record it.pass { finished = p } }) (turn_of given)
+      finishes state counts p hand given row own to row-is own-is stands gives =
+          let plan : Plan = it.pass.logs.plan in
+          let n : ℕ = it.pass.finished in
+          let core : ℕ = it.pass.core in
+          turn-finished state counts p hand given
+          (subst (StandsFor state) (ap (λ (o : Option Row). kept_rows plan n ++ option_to_list o) row-is ∙ sym (kept_rows-more plan n p (sym hand))) stands)
+          (course-more plan n p (sym hand) core verdict_after
+          ∙ ap (λ (xs : List Given). course_up_to verdict_after plan core n ++ xs)
+          (sym (gives ∙ given_kept plan n p (sym hand) core verdict_after (omega arith) to own row own-is row-is)))
+          (number-of p (λ (r : Row). verdict_after (kept_rows plan n) r) given own row gives)
+
   -- ---- the begin
 
   pub keeps-begin : (lane : End Route) (pass : OfCore) (state : State) (h : Heard) → Begin lane pass → IsLogs pass.logs
@@ -495,11 +631,6 @@ module _ {State : Type 0} where
   pub going : (it : Replica State) → it.standing ≡ standing.Running → it.standing ≢ standing.Ended
   going it running ended = let e : standing.Running ≡ standing.Ended = sym running ∙ ended in absurd cc
 
-  pub looked-lane : (old new : End Route) → HasLooked old new → new ≡ record old { looks = new.looks }
-  looked-lane old new (inl same) = same ∙ ap (λ (l : List ℕ). record old { looks = l }) (sym (ap (λ (e : End Route). e.looks) same))
-  looked-lane old new (inr found) =
-      found.1 ∙ ap (λ (l : List ℕ). record old { looks = l }) (sym (ap (λ (e : End Route). e.looks) found.1))
-
   -- the packet at hand has a small number
   pub few-hand : (it : Replica State) (p : ℕ) → IsReplica it → p ≤ decided it.pass.logs.plan it.pass.core it.lane.count → p ≤ 1000000
   few-hand it p is le =
@@ -509,3 +640,34 @@ module _ {State : Type 0} where
 
   pub within-run : (it : Replica State) (p : ℕ) → p ≤ decided it.pass.logs.plan it.pass.core it.lane.count → p ≤ frame_count it.pass.logs.plan
   within-run it p le = let most = decided-le it.pass.logs.plan it.pass.core it.lane.count in omega arith
+
+  -- ---- the packet at hand, once it is published
+
+  module _ (it : Replica State) (h : Heard) (row : Option Row) (done k history : ℕ) (was : Keeps it h row done k history)
+      (hand : it.pass.published ≡ at_hand it) where
+    to-decided : at_hand it ≤ decided it.pass.logs.plan it.pass.core it.lane.count
+    to-decided = let up = was.replica.published in omega arith
+
+    pub hand-in-run : at_hand it ≤ frame_count it.pass.logs.plan
+    hand-in-run = within-run it (at_hand it) to-decided
+
+    pub hand-small : at_hand it ≤ 1000000
+    hand-small = few-hand it (at_hand it) was.replica to-decided
+
+    pub own-here : (is_some row && eqb (done + 1) h.decided) ≡ delivers_to it.pass.logs.plan it.pass.core (at_hand it)
+    own-here =
+        let plan : Plan = it.pass.logs.plan in
+        let core : ℕ = it.pass.core in
+        let earlier = was.earlier in
+        ap (λ (o : Option Row). is_some o && eqb (done + 1) h.decided) (was.row hand)
+        ∙ ap (λ (n : ℕ). is_some (final_entry plan core (at_hand it)) && eqb (n + 1) h.decided) was.finished
+        ∙ ap (λ (n : ℕ). is_some (final_entry plan core (at_hand it)) && eqb (at_hand it) n) was.heard.decided
+        ∙ own-of plan core it.lane.count was.replica.is_logs.plan h.packet (at_hand it) was.heard.last (omega arith) to-decided
+
+    pub knows-here : is_some row ≡ carries_to it.pass.logs.plan it.pass.core (at_hand it)
+    knows-here =
+        let plan : Plan = it.pass.logs.plan in
+        let core : ℕ = it.pass.core in
+        ap is_some (was.row hand)
+        ∙ ap is_some (sym (row_in-entry_with (delivers_to plan core (at_hand it)) (final_entry plan core (at_hand it))))
+        ∙ is_some-entry plan (at_hand it) (omega arith) hand-in-run core

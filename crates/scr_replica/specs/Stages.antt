@@ -1,8 +1,9 @@
 -- What the parts of a turn do to a replica.
-use Rattle.std.specs.Prelude.{◌≡◌, ℕ, ◌+◌, ◌-◌, ◌≤◌, List, Option, None}
+use Rattle.std.specs.Prelude.{◌≡◌, ℕ, ◌+◌, ◌-◌, ◌≤◌, List, Option, Some, None}
 use Rattle.scr_base.specs.declared.row.Row.{Row}
 use Rattle.scr_base.specs.declared.row.Verdict.{Verdict}
 use Rattle.scr_plan.specs.declared.counting.CoreCounts.{CoreCounts}
+use Rattle.scr_plan.specs.declared.given.Given.{Given}
 use Rattle.scr_plan.specs.FinalEntry.{final_entry}
 use Rattle.scr_wire.specs.Lane.{decided}
 use Rattle.scr_lane.specs.Messages.{Route}
@@ -11,6 +12,7 @@ use Rattle.scr_log.specs.Passes.{OfCore}
 use Rattle.scr_replica.specs.declared.standing.Standing.{Standing}
 use Rattle.scr_replica.specs.declared.heard.Heard.{Heard}
 use Rattle.scr_replica.specs.declared.turn.Turn.{Turn}
+use Rattle.scr_replica.specs.declared.turn.Turn.TheVariants.{Moved, Verdict as Gives}
 use Rattle.scr_replica.specs.Heard.{HasHeard}
 use Rattle.scr_replica.specs.Replicas.{Replica, Stands, IsReplica, at_hand}
 use Rattle.scr_replica.specs.Turns.{TurnTells, GivesVerdict, HasMoreLooks, given_in}
@@ -25,6 +27,11 @@ replica_of lane pass state counts lost_to standing = record {
   lost_to = lost_to;
   standing = standing;
 }
+
+-- the answer of a turn that has finished a packet, with its verdict, where there is one
+abbrev pub turn_of : Option Given → Turn
+turn_of None = Moved
+turn_of (Some given) = Gives given.number given.verdict
 
 module _ {State : Type 0} where
   -- what it keeps besides: what it has heard, the row of the packet at hand, how far it has finished, and two numbers of the

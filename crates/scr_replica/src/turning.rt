@@ -1,6 +1,8 @@
 //! The turns of a replica.
 ghost use Rattle.std.specs.Prelude.{◌≡◌, ◌≢◌, ◌+◌, ◌<◌, ◌≤◌, ℕ, List, None};
 ghost use Rattle.std.specs.Option.{option_copied};
+ghost use Rattle.scr_plan.specs.Delivered.{delivers_to};
+ghost use Rattle.scr_plan.specs.Kept.{carries_to};
 ghost use Rattle.scr_plan.specs.FinalEntry.{final_entry};
 ghost use Rattle.scr_wire.specs.Lane.{decided};
 ghost use Rattle.scr_replica.specs.declared.standing.Standing.TheVariants as standing;
@@ -8,7 +10,7 @@ ghost use Rattle.scr_replica.specs.OneCore.{kept_row};
 ghost use Rattle.scr_replica.specs.Replicas as seen;
 ghost use Rattle.scr_replica.specs.Replicas.{IsReplica, Stands, at_hand, asked};
 ghost use Rattle.scr_replica.specs.Turns.{TurnTells, GivesVerdict, WaitsFor};
-ghost use Rattle.scr_replica.specs.Stages.{HasOnlyLooked, Rests, IsTurn};
+ghost use Rattle.scr_replica.specs.Stages.{turn_of, HasOnlyLooked, Rests, IsTurn};
 
 use crate::applying::{apply, count};
 use crate::replica::Replica;
@@ -16,9 +18,23 @@ use crate::standing::Standing;
 use crate::turn::{Pending, Turn};
 use scr_base::Row;
 use scr_log::{Logs, Look, Room};
-use scr_plan::core_of;
+use scr_plan::{Given, core_of};
 use scr_program::Program;
 use std::sync::Wait;
+
+// The answer of a turn that has finished a packet, with its verdict, where there is one.
+#[inline(always)]
+fn turn_of(given: Option<Given>) -> Turn
+    ensures { result ≡ turn_of given }
+{
+    match given {
+        Some(given) => Turn::Verdict {
+            number: given.number,
+            verdict: given.verdict,
+        },
+        None => Turn::Moved,
+    }
+}
 
 impl<P: Program> Replica<P> {
     // Nothing can be done yet: the answer is that, unless the halt word is set.
@@ -75,6 +91,24 @@ impl<P: Program> Replica<P> {
         }
     }
 
+    // Whether the frame of the packet at hand was delivered to this core.
+    #[inline(always)]
+    fn is_own(&self) -> bool
+        requires { self.now.pass.published ≡ at_hand self.now }
+        ensures { result ≡ delivers_to self.now.pass.logs.plan self.now.pass.core (at_hand self.now) }
+    {
+        self.row.is_some() && self.finished + 1 == self.heard.decided()
+    }
+
+    // Whether a frame that was delivered to this core carries the packet at hand.
+    #[inline(always)]
+    fn knows(&self) -> bool
+        requires { self.now.pass.published ≡ at_hand self.now }
+        ensures { result ≡ carries_to self.now.pass.logs.plan self.now.pass.core (at_hand self.now) }
+    {
+        self.row.is_some()
+    }
+
     // Applies the packet at hand with the row that is kept, or passes it over where none is, and finishes it.
     #[inline]
     fn finish(&mut self, settings: &P::Settings, logs: &Logs, row: Option<&Row>) -> Turn
@@ -86,24 +120,20 @@ impl<P: Program> Replica<P> {
         ensures { (before : seen.Replica P.State) → HasOnlyLooked before self.old → IsTurn (P.StandsFor settings.now) (P.verdict_after settings.now) before self.new result }
     {
         let p = self.finished + 1;
-        let own = self.row.is_some() && p == self.heard.decided();
-        let given = match apply::<P>(settings, &mut self.state, p, row, own) {
-            Ok(given) => given,
+        let own = self.is_own();
+        let known = self.knows();
+        match apply::<P>(settings, &mut self.state, p, row, own) {
+            Ok(given) => {
+                count(&mut self.counts, own, known, row.is_some());
+                logs.finish(&mut self.pass, p);
+                self.finished = p;
+                self.asked = 0;
+                turn_of(given)
+            }
             Err(error) => {
                 self.standing = Standing::OutOfMemory(error);
-                return Turn::OutOfMemory(error);
+                Turn::OutOfMemory(error)
             }
-        };
-        count(&mut self.counts, own, self.row.is_some(), row.is_some());
-        logs.finish(&mut self.pass, p);
-        self.finished = p;
-        self.asked = 0;
-        match given {
-            Some(given) => Turn::Verdict {
-                number: given.number,
-                verdict: given.verdict,
-            },
-            None => Turn::Moved,
         }
     }
 
