@@ -13,6 +13,7 @@ pub mod TakenInOrder
 pub mod Deciding
 pub mod Saying
 pub mod WholeTurns
+pub mod Going
 pub mod Undivided
 pub mod Counted
 pub mod Numbers

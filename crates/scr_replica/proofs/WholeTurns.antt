@@ -1,14 +1,16 @@
 -- What the parts of a turn tell of the whole turn.
-use Rattle.std.proofs.Common.{◌≡◌, ◌≢◌, ℕ, ◌+◌, ◌-◌, ◌<◌, ◌≤◌, Bool, true, false, cond, ◌&&◌, List, [], ◌∷◌, ◌++◌, length, Option, Some, None, inl, inr, arith, refl, sym, ap, subst, ◌∙◌, eqb, option_to_list, append_assoc}
+use Rattle.std.proofs.Common.{◌≡◌, ◌≢◌, ℕ, ◌+◌, ◌-◌, ◌*◌, ◌/◌, ◌%◌, ◌<◌, ◌≤◌, Bool, true, false, cond, ◌&&◌, List, [], ◌∷◌, ◌++◌, length, Option, Some, None, inl, inr, arith, refl, sym, ap, subst, ◌∙◌, eqb, option_to_list, append_assoc}
 use Rattle.std.specs.Prelude.{is_some, IfSome}
 use Rattle.std.specs.Option.{option_map}
 use Rattle.scr_base.specs.declared.out_of_memory.OutOfMemory.{OutOfMemory as OfMemory}
+use Rattle.std.proofs.lemmas.Bool.{cases_lt}
 use Rattle.std.proofs.lemmas.List.{append-nil}
+use Rattle.std.proofs.lemmas.Nat.{div-add-mod', mod-mul-add}
 use Rattle.scr_base.specs.declared.row.Row.{Row}
 use Rattle.scr_base.specs.declared.row.Verdict.{Verdict}
 use Rattle.scr_plan.specs.declared.counting.CoreCounts.{CoreCounts}
 use Rattle.scr_plan.specs.declared.given.Given.{Given}
-use Rattle.scr_plan.specs.Plan.{Plan, frame_count}
+use Rattle.scr_plan.specs.Plan.{Plan, IsPlan, frame_count}
 use Rattle.scr_plan.specs.Delivered.{delivers_to}
 use Rattle.scr_plan.specs.Kept.{carries_to}
 use Rattle.scr_plan.specs.FinalEntry.{final_entry}
@@ -33,7 +35,7 @@ use Rattle.scr_replica.specs.OneCore.{kept_row, kept_rows, course_up_to}
 use Rattle.scr_replica.specs.Replicas.{Replica, Begin, Stands, IsThrough, IsReplica, at_hand, asked}
 use Rattle.scr_replica.specs.Turns.{answer_of, HasMoreLooks, HasAdded, GoesOn, Moves, WaitsFor, Answers, TurnTells, GivesVerdict, given_in}
 use Rattle.scr_replica.specs.Heard.{HasHeard}
-use Rattle.scr_replica.proofs.Packets.{row_in-entry_with, is_some-entry}
+use Rattle.scr_replica.proofs.Packets.{row_in-entry_with, is_some-entry, unknown-unkept}
 use Rattle.scr_replica.proofs.Saying.{own-of}
 use Rattle.scr_replica.proofs.Taking.{kept_rows-more, course-more, given_kept}
 use Rattle.scr_replica.specs.Stages.{replica_of, turn_of, HasOnlyLooked, Rests, IsTurn, Keeps}
@@ -77,6 +79,18 @@ module _ {State : Type 0} where
     lane = refl;
     pass = refl;
     looks = ([], sym (append-nil it.pass.looks));
+    state = refl;
+    counts = refl;
+    lost_to = refl;
+    standing = refl;
+  }
+
+  -- one look
+  pub looked-one : (it : Replica State) (look : Noted) → HasOnlyLooked it (record it { pass = looked it.pass look })
+  looked-one it look = record {
+    lane = refl;
+    pass = refl;
+    looks = (look ∷ [], refl);
     state = refl;
     counts = refl;
     lost_to = refl;
@@ -671,3 +685,35 @@ module _ {State : Type 0} where
         ap is_some (was.row hand)
         ∙ ap is_some (sym (row_in-entry_with (delivers_to plan core (at_hand it)) (final_entry plan core (at_hand it))))
         ∙ is_some-entry plan (at_hand it) (omega arith) hand-in-run core
+
+-- ---- asking
+
+-- each core is asked at some place
+asked-place : (plan : Plan) (p core : ℕ) → 1 ≤ p → core < plan.cores → (i : ℕ) × (i < plan.cores) × (asked plan p i ≡ core)
+asked-place plan p core from below =
+    let k : ℕ = plan.cores in
+    let q : ℕ = p - 1 in
+    let r : ℕ = q % k in
+    let a : ℕ = q / k in
+    let whole : a * k + r ≡ q = div-add-mod' q k in
+    let small : r < k = omega arith in
+    elim (cases_lt core r) as (λ _. (i : ℕ) × (i < plan.cores) × (asked plan p i ≡ core)) [
+      | inl less ↦ (
+          let i : ℕ = core + k - r in
+          let next : (a + 1) * k ≡ a * k + k = grind arith in
+          let sum : p + i - 1 ≡ (a + 1) * k + core = omega arith in
+          (i, omega arith, ap (λ (n : ℕ). n % k) sum ∙ mod-mul-add (a + 1) k core below))
+      | inr more ↦ (
+          let i : ℕ = core - r in
+          let sum : p + i - 1 ≡ a * k + core = omega arith in
+          (i, omega arith, ap (λ (n : ℕ). n % k) sum ∙ mod-mul-add a k core below))
+    ]
+
+-- a packet that all have lost isn't kept
+pub all-lost : (plan : Plan) (p : ℕ) → IsPlan plan → 1 ≤ p → p ≤ frame_count plan
+    → ((i : ℕ) → i < plan.cores → final_entry plan (asked plan p i) p ≡ None) → None ≡ kept_row plan p
+all-lost plan p is_plan from to lost =
+    sym (unknown-unkept plan p from to is_plan
+    (λ core below.
+    let place = asked-place plan p core from below in
+    ap (λ (c : ℕ). final_entry plan c p) (sym place.2) ∙ lost place.0 place.1))

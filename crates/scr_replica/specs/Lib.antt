@@ -7,4 +7,5 @@ pub mod Replicas
 pub mod Turns
 pub mod Stages
 pub mod Stops
+pub mod Ways
 pub mod Answers

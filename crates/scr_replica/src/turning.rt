@@ -216,7 +216,12 @@ impl<P: Program> Replica<P> {
         ensures replica { IsReplica self.new }
     {
         match self.standing {
-            Standing::Running => self.go_on(rt, settings, logs),
+            Standing::Running => {
+                let answer = self.go_on(rt, settings, logs);
+                // What is true of every replica holds again.
+                let _pass = self.pass();
+                answer
+            }
             Standing::Ended => Turn::Ended,
             Standing::Halted => Turn::Halted,
             Standing::OutOfMemory(error) => Turn::OutOfMemory(error),
