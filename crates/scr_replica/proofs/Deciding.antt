@@ -3,7 +3,7 @@ use Rattle.std.proofs.Common.{◌≡◌, ℕ, zero, suc, ◌+◌, ◌-◌, ◌<�
 use Rattle.std.specs.Prelude.{fold, slice_get}
 use Rattle.std.proofs.lemmas.Bool.{cases_lt}
 use Rattle.std.proofs.lemmas.Bool.Decides.{nat_tests}
-use Rattle.std.proofs.lemmas.List.{take_more, take_all, take-append-le, map-append}
+use Rattle.std.proofs.lemmas.List.{take_more, take_all, take-append-le, map-append, length-append}
 use Rattle.std.proofs.lemmas.Grind.{fold-append}
 use Rattle.std.proofs.lemmas.Option.{get_or_from_slice_get, slice_get_within}
 use Rattle.scr_base.specs.declared.row.Row.{Row}
@@ -14,6 +14,7 @@ use Rattle.scr_plan.specs.Delivered.{delivers, delivers_to, is_frame, number_of}
 use Rattle.scr_plan.proofs.Delivering.{Decides-delivered_to}
 use Rattle.scr_wire.specs.declared.message.Message.{Message}
 use Rattle.scr_wire.specs.declared.message.Message.TheVariants.{Frame, Beacon, End}
+use Rattle.scr_wire.specs.declared.message.MessageKind.TheVariants as kind
 use Rattle.scr_wire.specs.Spelling as message
 use Rattle.scr_wire.specs.Lane.{message_of, frame, lane_so_far, lane, decided_by, decided_by_all, decided}
 use Rattle.scr_wire.proofs.Decides.{decided-zero, decided-suc, decided-le, decided-whole}
@@ -56,6 +57,10 @@ is-frame plan (item.Frame m) n rows e =
     let same : n ≡ m = ap message.number_of e in
     (ap item.Frame (sym same), e ∙ ap (frame plan) (sym same))
 
+pub kind-of-item : (plan : Plan) (it : Item) → message.kind_of (message_of plan it) ≡ kind.End → ⊥
+kind-of-item plan (item.Beacon m) e = absurd cc
+kind-of-item plan (item.Frame m) e = absurd cc
+
 isnt-end : (plan : Plan) (it : Item) (n : ℕ) → End n ≡ message_of plan it → ⊥
 isnt-end plan (item.Beacon m) n e = absurd cc
 isnt-end plan (item.Frame m) n e = absurd cc
@@ -65,7 +70,7 @@ abbrev pub Stands : Plan → (core m n : ℕ) → Type 0
 Stands plan core m n = (f : ℕ) → f ≤ n → delivers_to plan core f ≡ true → f ≤ decided plan core m
 
 module _ (plan : Plan) (core : ℕ) where
-  abbrev items : List Item
+  abbrev pub items : List Item
   items = order plan core
 
   front-is : (m : ℕ) → m ≤ length items → take m (lane plan core) ≡ map (message_of plan) (take m items)
@@ -82,6 +87,11 @@ module _ (plan : Plan) (core : ℕ) where
   unfolding greatest_number
   greatest-is m le = ap (λ (ms : List Message). fold max 0 (map message.number_of ms)) (front-is m le)
 
+  -- the lane has all items and the end
+  pub long : length (lane plan core) ≡ length items + 1
+  unfolding lane_so_far
+  long = omega (arith, length-append (map (message_of plan) items) (End (frame_count plan) ∷ []), length-map (message_of plan) items)
+
   -- one message more
   greatest-suc : (m : ℕ) (d : Message) → m < length (lane plan core)
       → greatest_number plan core (m + 1) ≡ max (greatest_number plan core m) (message.number_of (get_or (lane plan core) m d))
@@ -94,19 +104,19 @@ module _ (plan : Plan) (core : ℕ) where
       ∙ fold-append max 0 (map message.number_of before) (message.number_of last ∷ [])
 
   -- nothing is decided above the greatest number
-  decided-under : (m : ℕ) → m ≤ length items → decided plan core m ≤ greatest_number plan core m
+  pub decided-under : (m : ℕ) → m ≤ length items → decided plan core m ≤ greatest_number plan core m
   decided-under m le =
       let few = decided-few plan 0 0 (take m items) (omega arith) in
       omega (arith, decided-is m le, greatest-is m le)
 
   module _ (m : ℕ) (it : Message) (is : slice_get (lane plan core) m ≡ Some it) where
-    abbrev here : Item
+    abbrev pub here : Item
     here = get_or items m (item.Beacon 0)
 
     within : m < length (lane plan core)
     within = slice_get_within (lane plan core) m it is
 
-    place : (m < length items × (it ≡ message_of plan here)) ⊎ ((m ≡ length items) × (it ≡ End (frame_count plan)))
+    pub place : (m < length items × (it ≡ message_of plan here)) ⊎ ((m ≡ length items) × (it ≡ End (frame_count plan)))
     unfolding lane_so_far
     place = message-at (message_of plan) items (End (frame_count plan)) m it is
 
@@ -158,7 +168,7 @@ module _ (plan : Plan) (core : ℕ) where
             | inr last ↦ absurd (let e : Frame n rows ≡ End (frame_count plan) = sym frame-is ∙ last.1 in cc)
           ]
 
-      few : m ≤ length items
+      pub few : m ≤ length items
       few = let less = at-frame.0 in omega arith
 
       -- a frame whose number is above all before it is delivered to the core

@@ -11,6 +11,9 @@ pub mod LaneItems
 pub mod Taken
 pub mod TakenInOrder
 pub mod Deciding
+pub mod Saying
+pub mod WholeTurns
+pub mod Going
 pub mod Undivided
 pub mod Counted
 pub mod Numbers

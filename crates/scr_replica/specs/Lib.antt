@@ -2,7 +2,10 @@ pub mod OneCore
 pub mod Entries
 pub mod Told
 pub mod Awaiting
+pub mod Heard
 pub mod Replicas
 pub mod Turns
+pub mod Stages
 pub mod Stops
+pub mod Ways
 pub mod Answers

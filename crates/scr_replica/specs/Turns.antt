@@ -13,6 +13,7 @@ use Rattle.scr_log.specs.declared.view.Noted.TheVariants.{Tag, Finished, Halt}
 use Rattle.scr_log.specs.Entries.{tag_number}
 use Rattle.scr_log.specs.Passes.{OfCore}
 use Rattle.scr_log.specs.Answers.{EndsWith}
+use Rattle.scr_replica.specs.declared.standing.Standing.{Standing}
 use Rattle.scr_replica.specs.declared.standing.Standing.TheVariants as standing
 use Rattle.scr_replica.specs.declared.turn.Turn.{Turn}
 use Rattle.scr_replica.specs.declared.turn.Turn.TheVariants.{Moved, Verdict as Gives, Waiting, Ended, Halted, OutOfMemory}
@@ -29,6 +30,13 @@ given_in (Waiting pending) = None
 given_in Ended = None
 given_in Halted = None
 given_in (OutOfMemory error) = None
+
+-- a replica that isn't running answers as before
+abbrev pub answer_of : Standing → Turn
+answer_of standing.Running = Moved
+answer_of standing.Ended = Ended
+answer_of standing.Halted = Halted
+answer_of (standing.OutOfMemory error) = OutOfMemory error
 
 -- the looks of a pass have grown by these
 abbrev pub HasMoreLooks : (old new : OfCore) → Type 0
@@ -78,13 +86,6 @@ module _ {State : Type 0} where
   Answers old new Ended = new.standing ≡ standing.Ended
   Answers old new Halted = (new.standing ≡ standing.Halted) × EndsWith old.pass new.pass (Halt 1)
   Answers old new (OutOfMemory error) = new.standing ≡ standing.OutOfMemory error
-
-  -- one that isn't answers as before, and nothing changes
-  abbrev pub answer_of : standing.Standing → Turn
-  answer_of standing.Running = Moved
-  answer_of standing.Ended = Ended
-  answer_of standing.Halted = Halted
-  answer_of (standing.OutOfMemory error) = OutOfMemory error
 
   pub record TurnTells (old new : Replica State) (answer : Turn) : Type 0 where
     pub goes_on : GoesOn old new

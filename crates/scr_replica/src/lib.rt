@@ -28,20 +28,24 @@
 //! Nothing here starts a thread.
 #![tactic(auto)]
 
+mod applying;
 mod entry;
 mod filling;
 mod gate;
 mod gathered;
+mod heard;
 mod known;
 mod laws;
 mod listener;
 mod merging;
 mod phases;
 mod replay;
+mod replica;
 mod standing;
 #[cfg(test)]
 mod tests;
 mod turn;
+mod turning;
 mod worker;
 
 pub use gate::Gate;
@@ -49,6 +53,7 @@ pub use gathered::{CoreResult, Gathered};
 pub use laws::{frames_of_a_lane, none_dropped, one_core_of_all, one_verdict_each};
 pub use merging::gather;
 pub use phases::run_phases;
+pub use replica::Replica;
 pub use standing::Standing;
 pub use turn::{Pending, Turn};
 pub use worker::{CoreCause, CoreStop, run_core};

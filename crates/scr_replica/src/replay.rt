@@ -1,16 +1,16 @@
-ghost use Rattle.std.specs.Prelude.{◌≡◌, ◌+◌, ◌<◌, ◌^◌, ◌++◌, ◌∷◌, ℕ, List, [], ◌&&◌, not, true, length, option_to_list, is_some, IfSome, IfNone, OnOk, IfOk, IsSome, Some, slice_index_or, if◌then◌else◌};
-ghost use Rattle.std.specs.Option.{option_copied, option_map};
-ghost use Rattle.scr_base.specs.declared.row.Row.{Row};
+ghost use Rattle.std.specs.Prelude.{◌≡◌, ◌+◌, ◌<◌, ℕ, length, IfSome, IfNone, IfOk, Some, slice_index_or};
+ghost use Rattle.std.specs.Option.{option_copied};
 ghost use Rattle.scr_replica.specs.OneCore.{kept_row};
-ghost use Rattle.scr_replica.specs.Entries.{row_in, is_delivered};
+ghost use Rattle.scr_replica.specs.Entries.{row_in};
 ghost use Rattle.scr_replica.specs.Told.{untold, AllFinal, row_at};
 ghost use Rattle.scr_replica.specs.Answers.{core_answer};
 
+use crate::applying::{NONE, apply, count, keep};
 use crate::entry::Entry;
 use crate::gathered::CoreResult;
 use crate::listener::Listener;
 use scr_base::{OutOfMemory, Row};
-use scr_plan::{CoreCounts, Given, RunPlan, core_of};
+use scr_plan::{RunPlan, core_of};
 use scr_program::Program;
 use std::alloc::Global;
 
@@ -60,58 +60,6 @@ fn resolved<'a>(
     }
 }
 
-// Counts one packet more, with the core's entry for it and whether it is kept.
-fn count(counts: &mut CoreCounts, entry: &Entry, kept: bool)
-    requires few_delivered { counts.old.delivered + 1 < 2 ^ 32 }
-    requires few_carried { counts.old.carried + 1 < 2 ^ 32 }
-    requires few_recovered { counts.old.recovered + 1 < 2 ^ 32 }
-    requires few_skipped { counts.old.skipped + 1 < 2 ^ 32 }
-    requires kept { IsSome (row_in entry.now) → kept ≡ true }
-    ensures delivered { counts.new.delivered ≡ counts.old.delivered + (if is_delivered entry.now then 1 else 0) }
-    ensures carried { counts.new.carried ≡ counts.old.carried + (if is_some (row_in entry.now) then 1 else 0) }
-    ensures recovered { counts.new.recovered ≡ counts.old.recovered + (if kept && not (is_some (row_in entry.now)) then 1 else 0) }
-    ensures skipped { counts.new.skipped ≡ counts.old.skipped + (if not kept then 1 else 0) }
-{
-    match entry {
-        Entry::Delivered(_) => {
-            counts.delivered += 1;
-            counts.carried += 1;
-        }
-        Entry::Carried(_) => counts.carried += 1,
-        Entry::Lost if kept => counts.recovered += 1,
-        Entry::Lost => counts.skipped += 1,
-    }
-}
-
-// Applies the row of a packet, where there is one, and keeps its verdict, where the packet's own frame was delivered.
-fn apply<P: Program>(
-    settings: &P::Settings,
-    state: &mut P::State,
-    verdicts: &mut Vec<Given>,
-    number: u32,
-    row: Option<&Row>,
-    own: bool,
-) -> Result<(), OutOfMemory>
-    ensures state { (rows : List Row) → P.StandsFor settings.now state.old rows → OnOk result (P.StandsFor settings.now state.new (rows ++ option_to_list (option_copied row.entry))) }
-    ensures verdicts { (rows : List Row) → P.StandsFor settings.now state.old rows → OnOk result (verdicts.new.items ≡ verdicts.old.items ++ (if own then option_to_list (option_map (λ row. record { number = number; verdict = P.verdict_after settings.now rows row }) (option_copied row.entry)) else [])) }
-{
-    if let Some(row) = row {
-        let verdict = P::step(settings, state, row)?;
-        if own {
-            verdicts.push(Given { number, verdict })?;
-        }
-    }
-    Ok(())
-}
-
-// No packets yet.
-const NONE: CoreCounts = CoreCounts {
-    delivered: 0,
-    carried: 0,
-    recovered: 0,
-    skipped: 0,
-};
-
 /// One core's way through the packets: it applies the row of each that it or a peer knows, once and in order.
 pub(crate) fn replay<P: Program>(
     alloc: Global,
@@ -130,16 +78,11 @@ pub(crate) fn replay<P: Program>(
     let mut counts = NONE;
     for (place, entry) in cores[core as usize].entries().iter().enumerate() {
         let row = resolved(plan, cores, entry, place);
-        count(&mut counts, entry, row.is_some());
+        let own = entry.is_delivered();
+        count(&mut counts, own, entry.row().is_some(), row.is_some());
         let number = place as u32 + 1;
-        apply::<P>(
-            settings,
-            &mut state,
-            &mut verdicts,
-            number,
-            row,
-            entry.is_delivered(),
-        )?;
+        let given = apply::<P>(settings, &mut state, number, row, own)?;
+        keep(&mut verdicts, given)?;
     }
     let flows = P::flows(settings, &state);
     Ok(CoreResult {

@@ -1,13 +1,24 @@
-ghost use Rattle.std.specs.Prelude.{◌≡◌, IfOk, IfErr};
+ghost use Rattle.std.specs.Prelude.{◌≡◌, IfOk, IfErr, OnOk, OnErr};
+ghost use Rattle.scr_log.specs.declared.view.Noted.TheVariants.{Halt};
+ghost use Rattle.scr_log.specs.Passes.{OfCore};
+ghost use Rattle.scr_log.specs.Answers.{EndsWith};
+ghost use Rattle.scr_replica.specs.declared.standing.Standing.TheVariants as standing;
 ghost use Rattle.scr_replica.specs.Answers.{core_answer};
-ghost use Rattle.scr_replica.specs.Replicas.{Begin};
+ghost use Rattle.scr_replica.specs.Replicas.{Begin, Stands};
+ghost use Rattle.scr_replica.specs.declared.worker.CoreCause.TheVariants as causes;
 ghost use Rattle.scr_replica.specs.Stops.{StopTells};
+ghost use Rattle.scr_replica.specs.Ways.{stopped_by, CameFrom, IsOnItsWay, Leads};
 
+use crate::applying::keep;
 use crate::gate::Gate;
 use crate::gathered::CoreResult;
+use crate::replica::Replica;
+use crate::turn::Turn;
+use crossbeam_utils::Backoff;
 use scr_base::OutOfMemory;
 use scr_lane::ReceiveEnd;
 use scr_log::{CorePass, Logs};
+use scr_plan::Given;
 use scr_program::Program;
 use std::alloc::Global;
 use std::marker::Model;
@@ -37,6 +48,84 @@ impl Model for CoreStop {
     ghost view = { λ it. record { pass = it.pass; cause = it.cause } };
 }
 
+// What a turn, whose verdict is kept, leads to.
+#[derive(Clone, Copy)]
+enum Advance {
+    On,
+    Waits,
+    Through,
+    Stops(CoreCause),
+}
+
+// A turn, whose verdict is kept.
+#[inline]
+fn take_turn<P: Program, R: Wait>(
+    rt: &R,
+    settings: &P::Settings,
+    replica: &mut Replica<P>,
+    logs: &Logs,
+    verdicts: &mut Vec<Given>,
+) -> Advance
+    requires of_these { replica.old.pass.logs ≡ logs.now }
+    requires stands { Stands (P.StandsFor settings.now) replica.old }
+    requires running { replica.old.standing ≡ standing.Running }
+    ensures { (start : OfCore) → IsOnItsWay (P.StandsFor settings.now) (P.verdict_after settings.now) start replica.old verdicts.old.items → Leads (P.StandsFor settings.now) (P.verdict_after settings.now) start replica.new verdicts.new.items result }
+{
+    match replica.turn(rt, settings, logs) {
+        Turn::Moved => Advance::On,
+        Turn::Verdict { number, verdict } => match keep(verdicts, Some(Given { number, verdict })) {
+            Ok(()) => Advance::On,
+            Err(error) => Advance::Stops(CoreCause::OutOfMemory(error)),
+        },
+        Turn::Waiting(_) => Advance::Waits,
+        Turn::Ended => Advance::Through,
+        Turn::Halted => Advance::Stops(CoreCause::Halted),
+        Turn::OutOfMemory(error) => Advance::Stops(CoreCause::OutOfMemory(error)),
+    }
+}
+
+// Turns until the end, or until the core has to stop. It pauses where it waits.
+fn go_through<P: Program, R: Wait>(
+    rt: &R,
+    settings: &P::Settings,
+    replica: &mut Replica<P>,
+    logs: &Logs,
+    verdicts: &mut Vec<Given>,
+) -> Result<(), CoreCause>
+    requires of_these { replica.old.pass.logs ≡ logs.now }
+    requires running { replica.old.standing ≡ standing.Running }
+    requires begin { IsOnItsWay (P.StandsFor settings.now) (P.verdict_after settings.now) replica.old.pass replica.old verdicts.old.items }
+    ensures ended { OnOk result (replica.new.standing ≡ standing.Ended) }
+    ensures way { OnOk result (IsOnItsWay (P.StandsFor settings.now) (P.verdict_after settings.now) replica.old.pass replica.new verdicts.new.items) }
+    ensures stopped { OnErr result (CameFrom (P.StandsFor settings.now) (P.verdict_after settings.now) replica.old.pass replica.new) }
+    ensures halted { IfErr result (λ cause. cause ≡ causes.Halted → EndsWith replica.old.pass replica.new.pass (Halt 1)) }
+{
+    let mut pause = Backoff::new();
+    for _ in rt.forever() {
+        match take_turn(rt, settings, replica, logs, verdicts) {
+            Advance::On => pause = Backoff::new(),
+            Advance::Waits => pause.snooze(),
+            Advance::Through => return Ok(()),
+            Advance::Stops(cause) => return Err(cause),
+        }
+    }
+    unreachable!()
+}
+
+// A core that stops. Without memory it sets the halt word.
+#[cold]
+#[inline(never)]
+fn stopped(logs: &Logs, mut pass: CorePass, cause: CoreCause) -> CoreStop
+    requires { pass.logs ≡ logs.now }
+    ensures pass { result.pass ≡ stopped_by cause pass }
+    ensures cause { result.cause ≡ cause }
+{
+    if matches!(cause, CoreCause::OutOfMemory(_)) {
+        logs.halt(&mut pass);
+    }
+    CoreStop { pass, cause }
+}
+
 /// A core in the calling thread, from its begin to its end: it takes its lane, and goes through the gate once in and once
 /// out.
 pub fn run_core<P: Program, G: Gate, R: Wait>(
@@ -53,7 +142,26 @@ pub fn run_core<P: Program, G: Gate, R: Wait>(
     ensures answer { IfOk result (λ it. it ≡ core_answer (P.verdict_after settings.now) (P.count_after settings.now) logs.now.plan pass.core) }
     ensures stop { IfErr result (StopTells pass) }
 {
-    // STUB: never returns. The helper `replica` replaces it.
-    for _ in rt.forever() {}
-    unreachable!()
+    gate.enter(rt, &pass);
+    let mut replica = match Replica::<P>::make(alloc, settings, lane, pass, logs) {
+        Ok(replica) => replica,
+        Err(stop) => return Err(stopped(logs, stop.pass, stop.cause)),
+    };
+    let mut verdicts = Vec::new(alloc);
+    match go_through(rt, settings, &mut replica, logs, &mut verdicts) {
+        Ok(()) => {
+            gate.leave(rt, replica.pass());
+            let (pass, counts, flows) = replica.take_apart(settings);
+            Ok(CoreResult {
+                core: pass.core(),
+                verdicts,
+                counts,
+                flows,
+            })
+        }
+        Err(cause) => {
+            let (pass, _, _) = replica.take_apart(settings);
+            Err(stopped(logs, pass, cause))
+        }
+    }
 }

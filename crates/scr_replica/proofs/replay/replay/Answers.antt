@@ -14,7 +14,7 @@ use Rattle.scr_plan.specs.Counts.{counts_up_to}
 use Rattle.scr_replica.proofs.Knowing.{length-entries}
 use Rattle.scr_replica.proofs.Packets.{is_some-kept_row, is_some-entry, is_delivered-entry}
 use Rattle.scr_replica.proofs.Found.{entry_at, known_of_entry}
-use Rattle.scr_replica.proofs.Taking.{kept_rows-zero, course-zero, own_entries, is_some-copied, some_kept, kept_rows-more, counts_few, counts-more, course-more, given_kept}
+use Rattle.scr_replica.proofs.Taking.{kept_rows-zero, course-zero, own_entries, is_some-copied, kept_rows-more, counts_few, counts-more, course-more, given_kept}
 use Rattle.scr_replica.proofs.replay.replay.Goals as goal
 use Rattle.scr_replica.proofs.replay.replay.Goals.{In-loop-place}
 
@@ -74,15 +74,6 @@ count-requires-clause-few_recovered g c = (few g (goal.at.count-requires-clause-
 pub count-requires-clause-few_skipped : goal.count-requires-clause-few_skipped
 count-requires-clause-few_skipped g c = (few g (goal.at.count-requires-clause-few_skipped g c).In-loop-place).3
 
-pub count-requires-clause-kept : goal.count-requires-clause-kept
-count-requires-clause-kept g c =
-    let here = (goal.at.count-requires-clause-kept g c).In-loop-place in
-    λ some.
-    c.is_some.ensures
-    ∙ some_kept (row_in (get_or c.entries-entry-items.result.now c.loop-place.place _)) c.resolved-row.result (kept_row c.args.plan.now (c.loop-place.place + 1))
-    (known_of_entry c.args.plan.now c.args.core c.loop-place.place (below g here) (get_or c.entries-entry-items.result.now c.loop-place.place _) (entry_is g here _))
-    c.resolved-row.ensures some
-
 pub overflow_cast-number : goal.overflow_cast-number
 overflow_cast-number g c = omega (arith, below g (goal.at.overflow_cast-number g c).In-loop-place, c.rows.ensures.ranges.few_rows)
 
@@ -105,23 +96,24 @@ loop-place-preserved g c =
     let kept-is : row ≡ kept_row plan p = c.resolved-row.ensures in
     let from : 1 ≤ p = omega arith in
     let to : p ≤ frame_count plan = omega arith in
-    let own-is = c.is_delivered.ensures ∙ ap is_delivered entry-is ∙ is_delivered-entry plan p from to core in
+    let own-is = c.is_delivered-own.ensures ∙ ap is_delivered entry-is ∙ is_delivered-entry plan p from to core in
     let rows-more : kept_rows plan n ++ option_to_list row ≡ kept_rows plan p =
     ap (λ (o : Option Row). kept_rows plan n ++ option_to_list o) kept-is ∙ sym (kept_rows-more plan n p refl) in
     record {
       state =
           subst (λ (rows : List Row). g.P.Program.StandsFor c.args.settings.now c.apply.new.state rows) rows-more
-          (c.in_ok-apply.ensures.state (kept_rows plan n) was.state);
+          (c.in_ok-given.ensures.state (kept_rows plan n) was.state);
       verdicts =
-          c.in_ok-apply.ensures.verdicts (kept_rows plan n) was.state
-          ∙ ap (λ (xs : List Given). xs ++ cond c.is_delivered.result (option_to_list (option_map (λ r. record { number = p; verdict = verdict_after (kept_rows plan n) r }) row)) []) was.verdicts
-          ∙ ap (λ (xs : List Given). course_up_to verdict_after plan core n ++ xs) (given_kept plan n p refl core verdict_after from to c.is_delivered.result row own-is kept-is)
+          c.in_ok-keep.ensures
+          ∙ ap (λ (xs : List Given). xs ++ option_to_list c.in_ok-given.given) was.verdicts
+          ∙ ap (λ (xs : List Given). course_up_to verdict_after plan core n ++ xs)
+          (c.in_ok-given.ensures.given (kept_rows plan n) was.state ∙ given_kept plan n p refl core verdict_after from to c.is_delivered-own.result row own-is kept-is)
           ∙ sym (course-more plan n p refl core verdict_after);
       counts =
-          counts-more plan n p refl core c.loop-place.counts c.count.new.counts (is_delivered entry) (is_some (row_in entry)) c.is_some.result was.counts
-          (ap is_delivered entry-is ∙ is_delivered-entry plan p from to core)
-          (ap (λ (x : Entry). is_some (row_in x)) entry-is ∙ is_some-entry plan p from to core)
-          (c.is_some.ensures ∙ is_some-copied c.resolved-row.result ∙ ap is_some kept-is ∙ is_some-kept_row plan p from to)
+          counts-more plan n p refl core c.loop-place.counts c.count.new.counts c.is_delivered-own.result c.is_some.result c.is_some-in-loop-place.result was.counts
+          own-is
+          (c.is_some.ensures ∙ is_some-copied c.row.result ∙ ap is_some c.row.ensures ∙ ap (λ (x : Entry). is_some (row_in x)) entry-is ∙ is_some-entry plan p from to core)
+          (c.is_some-in-loop-place.ensures ∙ is_some-copied c.resolved-row.result ∙ ap is_some kept-is ∙ is_some-kept_row plan p from to)
           c.count.ensures.delivered c.count.ensures.carried c.count.ensures.recovered c.count.ensures.skipped;
     }
 
