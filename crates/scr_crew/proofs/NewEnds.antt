@@ -1,5 +1,5 @@
 -- The receiving ends of new lanes.
-use Rattle.std.proofs.Common.{◌≡◌, ℕ, List, ap}
+use Rattle.std.proofs.Common.{ℕ, List, ap}
 use Rattle.scr_plan.specs.Plan.{Plan}
 use Rattle.scr_lane.specs.Messages.{Route}
 use Rattle.scr_lane.specs.Ends.{End}

@@ -1,11 +1,11 @@
 //! The caller's part of a run: it feeds the lanes.
+ghost use Rattle.std.specs.Prelude.{◌≡◌};
+
 use crossbeam_utils::Backoff;
 use scr_base::OutOfMemory;
 use scr_feed::{Feed, Step};
 use scr_log::{FreePass, Logs};
 use std::sync::Wait;
-
-ghost use Rattle.std.specs.Prelude.{◌≡◌};
 
 // What a try to feed has come to.
 enum Fed {

@@ -88,8 +88,9 @@ pub fn run_crew<P: Program, G: Gate + Sync, R: Threads + Wait + Sync>(
             requires workers { OfCores (IsWorker logs.now) (length workers.items) workers.items }
             ensures { IfOk result (λ all. IfSome all (λ it. it ≡ answer (P.verdict_after settings.entry.now) (P.count_after settings.entry.now) plan.entry.now)) }
         {
-            let started =
-                start_all::<_, P, G, R>(scope, rt, alloc, settings, plan, logs, gate, workers)?;
+            let started = start_all::<_, P, G, R>(
+                scope, rt, alloc, settings, plan, logs, gate, workers,
+            )?;
             lead::<P, R>(rt, alloc, settings, plan, logs, free, feed, started)
         },
     )

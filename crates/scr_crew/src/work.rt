@@ -83,8 +83,9 @@ pub fn start_all<'s, E, P: Program + 's, G: Gate + Sync + 's, R: Wait + Sync + '
 {
     let mut started = Vec::with_capacity(alloc, workers.len())?;
     for worker in workers {
-        let thread =
-            start_worker::<E, P, G, R>(scope, rt, alloc, settings, plan, logs, gate, worker);
+        let thread = start_worker::<E, P, G, R>(
+            scope, rt, alloc, settings, plan, logs, gate, worker,
+        );
         let Some(thread) = thread else {
             break;
         };

@@ -1,4 +1,4 @@
-use Rattle.std.proofs.Common.{rules, ◌∙◌, ◌≡◌, ◌∷◌, ℕ, List, Ok, Result, length, false, sym, ap, subst, arith}
+use Rattle.std.proofs.Common.{rules, ◌∙◌, ◌≡◌, ◌∷◌, List, Ok, Result, sym, ap, subst}
 use Rattle.std.specs.Vec.Iter.{into_iter_items}
 use Rattle.scr_replica.specs.Stops.{Stop}
 use Rattle.scr_replica.specs.Answers.{CoreAnswer}

@@ -1,8 +1,8 @@
-use Rattle.std.proofs.Common.{◌≡◌, ◌≤◌, ℕ, List, Option, IfSome, length, ap, sym, ◌∙◌, subst, arith}
+use Rattle.std.proofs.Common.{◌≡◌, ℕ, List, IfSome, length, ap, ◌∙◌, subst, arith}
 use Rattle.scr_base.specs.declared.row.Row.{Row}
 use Rattle.scr_base.specs.declared.row.Verdict.{Verdict}
 use Rattle.scr_plan.specs.Plan.{Plan}
-use Rattle.scr_replica.specs.Answers.{CoreAnswer, core_answers, answer}
+use Rattle.scr_replica.specs.Answers.{core_answers}
 use Rattle.scr_crew.specs.Cores.{OfCores}
 use Rattle.scr_crew.specs.Answers.{IsAnswer}
 use Rattle.scr_crew.proofs.Answered.{answers_count}

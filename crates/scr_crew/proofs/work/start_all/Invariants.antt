@@ -1,5 +1,5 @@
 -- The threads so far are those of the first cores, and the others are still to be started.
-use Rattle.std.proofs.Common.{◌≡◌, length}
+use Rattle.std.proofs.Common.{length}
 use Rattle.std.specs.Vec.Iter.{into_iter_items}
 use Rattle.scr_crew.specs.Cores.{OfCores}
 use Rattle.scr_crew.specs.Workers.{IsWorker}
