@@ -1,5 +1,5 @@
 -- A core's way, turn by turn.
-use Rattle.std.proofs.Common.{◌≡◌, ℕ, ◌+◌, ◌<◌, ◌≤◌, List, [], ◌∷◌, ◌++◌, length, Option, Some, None, refl, sym, ap, subst, ◌∙◌, arith, option_to_list}
+use Rattle.std.proofs.Common.{◌≡◌, ℕ, List, [], refl, sym, ap, ◌∙◌, arith}
 use Rattle.std.proofs.lemmas.List.{append-nil}
 use Rattle.scr_base.specs.declared.row.Row.{Row}
 use Rattle.scr_base.specs.declared.row.Verdict.{Verdict}
@@ -7,23 +7,14 @@ use Rattle.scr_plan.specs.declared.given.Given.{Given}
 use Rattle.scr_plan.specs.declared.counting.CoreCounts.{CoreCounts}
 use Rattle.scr_plan.specs.Plan.{Plan, frame_count}
 use Rattle.scr_plan.specs.Counts.{plan_counts, counts_up_to}
-use Rattle.scr_log.specs.declared.view.Noted.{Noted}
-use Rattle.scr_log.specs.declared.view.Noted.TheVariants.{Halt}
 use Rattle.scr_log.specs.Passes.{LogsOf, OfCore}
-use Rattle.scr_log.specs.Answers.{EndsWith}
 use Rattle.scr_wire.proofs.Decides.{decided-le}
 use Rattle.scr_replica.specs.declared.standing.Standing.TheVariants as standing
-use Rattle.scr_replica.specs.declared.turn.Turn.{Turn}
-use Rattle.scr_replica.specs.declared.worker.CoreCause.{CoreCause}
-use Rattle.scr_replica.specs.declared.worker.CoreCause.TheVariants.{Halted, OutOfMemory}
 use Rattle.scr_replica.specs.OneCore.{course_up_to, course, kept_rows, entries}
 use Rattle.scr_replica.specs.Replicas.{Replica, Stands, IsReplica, IsThrough}
-use Rattle.scr_replica.specs.Turns.{HasMoreLooks, GoesOn, GivesVerdict, given_in}
-use Rattle.scr_replica.specs.Ways.{CameFrom, IsOnItsWay, stopped_by}
+use Rattle.scr_replica.specs.Ways.{IsOnItsWay}
 use Rattle.scr_replica.specs.Answers.{core_answer}
-use Rattle.scr_replica.specs.Stops.{StopTells, HasCause}
 use Rattle.scr_replica.proofs.Taking.{course-zero}
-use Rattle.scr_replica.proofs.WholeTurns.{more-looks}
 
 module _ {State : Type 0} (StandsFor : State → List Row → Type 0) (verdict_after : List Row → Row → Verdict) where
   -- a replica that has given nothing yet

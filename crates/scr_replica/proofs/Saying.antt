@@ -1,13 +1,13 @@
 -- What the message taken last says of the packets that it decides.
-use Rattle.std.proofs.Common.{◌≡◌, ℕ, ◌+◌, ◌-◌, ◌<◌, ◌≤◌, Bool, true, false, cond, ◌&&◌, List, [], ◌∷◌, length, max, get_or, Option, Some, None, inl, inr, arith, refl, sym, ap, subst, ◌∙◌, eqb, ltb}
+use Rattle.std.proofs.Common.{◌≡◌, ℕ, ◌+◌, ◌-◌, ◌<◌, ◌≤◌, Bool, true, false, cond, ◌&&◌, List, length, max, get_or, Option, Some, None, inl, inr, arith, refl, sym, ap, subst, ◌∙◌, eqb, ltb}
 use Rattle.std.specs.Prelude.{slice_get, is_some}
 use Rattle.std.proofs.lemmas.Bool.{cases_lt, cases_eq, false_from_ne_true, cond_below, cond_above, and_from, and_right, eq-eqb, ne_eqb}
 use Rattle.std.proofs.lemmas.Bool.Decides.{nat_tests}
-use Rattle.std.proofs.lemmas.Option.{slice_get-get_or, slice_get_past}
+use Rattle.std.proofs.lemmas.Option.{slice_get-get_or}
 use Rattle.scr_base.specs.declared.row.Row.{Row}
-use Rattle.scr_plan.specs.Plan.{Plan, IsPlan, frame_count, row_of}
+use Rattle.scr_plan.specs.Plan.{Plan, IsPlan, frame_count}
 use Rattle.scr_plan.specs.Delivered.{delivers, delivers_to}
-use Rattle.scr_plan.specs.Kept.{carries_to, first_carried}
+use Rattle.scr_plan.specs.Kept.{first_carried}
 use Rattle.scr_plan.specs.FinalEntry.{final_entry}
 use Rattle.scr_plan.proofs.Delivering.{Decides-delivered_to}
 use Rattle.scr_plan.proofs.Packets.{carried-own}

@@ -28,12 +28,12 @@ use Rattle.scr_replica.specs.declared.heard.Heard.{Heard}
 use Rattle.scr_replica.specs.declared.standing.Standing.{Standing}
 use Rattle.scr_replica.specs.declared.standing.Standing.TheVariants as standing
 use Rattle.scr_replica.specs.declared.turn.Turn.{Turn}
-use Rattle.scr_replica.specs.declared.turn.Turn.TheVariants.{Moved, Verdict as Gives, Waiting, Ended, Halted, OutOfMemory}
+use Rattle.scr_replica.specs.declared.turn.Turn.TheVariants.{Moved, Waiting, Ended, Halted, OutOfMemory}
 use Rattle.scr_replica.specs.declared.turn.Pending.{Pending}
 use Rattle.scr_replica.specs.declared.turn.Pending.TheVariants.{Empty, NotYet, NoRoom}
 use Rattle.scr_replica.specs.OneCore.{kept_row, kept_rows, course_up_to}
 use Rattle.scr_replica.specs.Replicas.{Replica, Begin, Stands, IsThrough, IsReplica, at_hand, asked}
-use Rattle.scr_replica.specs.Turns.{answer_of, HasMoreLooks, HasAdded, GoesOn, Moves, WaitsFor, Answers, TurnTells, GivesVerdict, given_in}
+use Rattle.scr_replica.specs.Turns.{answer_of, HasMoreLooks, HasAdded, GoesOn, WaitsFor, Answers, GivesVerdict, given_in}
 use Rattle.scr_replica.specs.Heard.{HasHeard}
 use Rattle.scr_replica.proofs.Packets.{row_in-entry_with, is_some-entry, unknown-unkept}
 use Rattle.scr_replica.proofs.Saying.{own-of}

@@ -1,5 +1,5 @@
 -- What a replica keeps of the messages that it took: the last one, and what all of them decide.
-use Rattle.std.specs.Prelude.{◌≡◌, ℕ, ◌+◌, ◌-◌, ◌<◌, ◌≤◌, true, false, List, length, slice_get, Option, Some, None, nat_lt, if◌then◌else◌}
+use Rattle.std.specs.Prelude.{◌≡◌, ℕ, ◌+◌, ◌-◌, ◌<◌, true, false, List, length, slice_get, Option, Some, None, nat_lt, if◌then◌else◌}
 use Rattle.scr_base.specs.declared.row.Row.{Row}
 use Rattle.scr_plan.specs.Plan.{Plan}
 use Rattle.scr_wire.specs.declared.message.Message.{Message}

@@ -1,5 +1,5 @@
 -- A core in a thread, as it stands between two turns: the end of its lane and its pass, and the state that it keeps.
-use Rattle.std.specs.Prelude.{◌≡◌, ◌≢◌, ℕ, ◌+◌, ◌<◌, ◌≤◌, List, None}
+use Rattle.std.specs.Prelude.{◌≡◌, ℕ, ◌+◌, ◌<◌, ◌≤◌, List, None}
 use Rattle.scr_base.specs.declared.row.Row.{Row}
 use Rattle.scr_plan.specs.declared.counting.CoreCounts.{CoreCounts}
 use Rattle.scr_plan.specs.Plan.{Plan, frame_count}

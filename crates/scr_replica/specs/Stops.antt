@@ -1,5 +1,5 @@
 -- Why a core stopped before its end, and what its pass shows then.
-use Rattle.std.specs.Prelude.{◌≡◌, ℕ, ◌<◌}
+use Rattle.std.specs.Prelude.{◌≡◌, ◌<◌}
 use Rattle.scr_log.specs.declared.view.Noted.TheVariants.{Halt}
 use Rattle.scr_log.specs.Passes.{OfCore}
 use Rattle.scr_log.specs.Answers.{EndsWith}

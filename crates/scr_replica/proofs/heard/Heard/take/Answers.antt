@@ -1,6 +1,4 @@
-use Rattle.std.proofs.Common.{◌≡◌, Some, refl, sym, ap, subst}
-use Rattle.scr_wire.specs.declared.message.Message.{Message}
-use Rattle.scr_wire.specs.Spelling.{kind_of, number_of}
+use Rattle.std.proofs.Common.{◌≡◌, Some, refl, sym, subst}
 use Rattle.scr_replica.specs.Heard.{decided_with}
 use Rattle.scr_replica.proofs.Saying.{hears}
 use Rattle.scr_replica.proofs.heard.Heard.take.Goals as goal

@@ -1,4 +1,4 @@
-use Rattle.std.proofs.Common.{◌≡◌, ◌≢◌, ◌+◌, ◌≤◌, ◌<◌, ◌∷◌, ◌++◌, [], ℕ, List, inl, inr, Some, None, refl, sym, ap, subst, ◌∙◌, arith}
+use Rattle.std.proofs.Common.{◌≡◌, ◌≢◌, ◌+◌, ◌≤◌, ◌<◌, ◌∷◌, ◌++◌, [], ℕ, List, inl, inr, Some, None, sym, ap, subst, ◌∙◌, arith}
 use Rattle.std.proofs.lemmas.Bool.{cases_lt}
 use Rattle.std.proofs.lemmas.List.{append-nil}
 use Rattle.scr_plan.specs.Plan.{Plan, IsPlan, frame_count}
@@ -7,7 +7,7 @@ use Rattle.scr_plan.specs.FinalEntry.{final_entry}
 use Rattle.scr_log.specs.declared.view.Noted.{Noted}
 use Rattle.scr_log.specs.declared.view.Noted.TheVariants.{Tag}
 use Rattle.scr_log.specs.Entries.{tag_number}
-use Rattle.scr_log.specs.Passes.{LogsOf, OfCore, looked}
+use Rattle.scr_log.specs.Passes.{LogsOf, OfCore}
 use Rattle.scr_replica.specs.declared.turn.Pending.TheVariants.{NotYet}
 use Rattle.scr_replica.specs.OneCore.{kept_row}
 use Rattle.scr_replica.specs.Replicas.{Replica, at_hand, asked}

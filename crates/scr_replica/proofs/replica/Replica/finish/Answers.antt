@@ -1,13 +1,11 @@
-use Rattle.std.proofs.Common.{◌≡◌, ◌≤◌, ◌<◌, ◌+◌, ◌^◌, ℕ, refl, sym, ap, subst, ◌∙◌, arith}
+use Rattle.std.proofs.Common.{◌≡◌, ◌+◌, ℕ, refl, sym, ap, subst, ◌∙◌, arith}
 use Rattle.std.specs.Prelude.{is_some}
 use Rattle.std.specs.Option.{option_copied}
 use Rattle.scr_plan.specs.declared.counting.CoreCounts.{CoreCounts}
 use Rattle.scr_plan.specs.Plan.{Plan}
 use Rattle.scr_plan.specs.Delivered.{delivers_to}
 use Rattle.scr_plan.specs.Kept.{carries_to}
-use Rattle.scr_plan.specs.Counts.{counts_up_to}
 use Rattle.scr_log.specs.Passes.{OfCore}
-use Rattle.scr_replica.specs.declared.standing.Standing.TheVariants as standing
 use Rattle.scr_replica.specs.declared.turn.Turn.{Turn}
 use Rattle.scr_replica.specs.OneCore.{kept_row, kept_rows}
 use Rattle.scr_replica.specs.Replicas.{Replica, Stands, at_hand}

@@ -1,10 +1,7 @@
-use Rattle.std.proofs.Common.{◌≡◌, ◌-◌, ◌<◌, ℕ, List, None, sym, ap, subst, ◌∙◌, arith}
+use Rattle.std.proofs.Common.{◌<◌, ℕ, List, sym, ap, subst, ◌∙◌}
 use Rattle.scr_base.specs.declared.row.Row.{Row}
-use Rattle.scr_plan.specs.Plan.{Plan}
 use Rattle.scr_log.specs.Passes.{LogsOf, IsLogs}
 use Rattle.scr_replica.specs.OneCore.{kept_rows}
-use Rattle.scr_replica.specs.Stages.{replica_of}
-use Rattle.scr_replica.specs.declared.standing.Standing.TheVariants as standing
 use Rattle.scr_replica.proofs.Taking.{kept_rows-zero}
 use Rattle.scr_replica.proofs.WholeTurns.{keeps-begin}
 use Rattle.scr_replica.proofs.replica.Replica.make.Goals as goal

@@ -1,5 +1,4 @@
-use Rattle.std.proofs.Common.{◌≡◌, ◌≤◌, ◌<◌, ◌+◌, sym, subst, arith}
-use Rattle.scr_wire.specs.Lane.{decided}
+use Rattle.std.proofs.Common.{◌≡◌, sym, subst, arith}
 use Rattle.scr_replica.specs.Replicas.{Replica, at_hand}
 use Rattle.scr_replica.specs.Stages.{replica_of}
 use Rattle.scr_replica.proofs.WholeTurns.{few-hand}

@@ -1,12 +1,9 @@
-use Rattle.std.proofs.Common.{◌≡◌, ◌≢◌, ◌+◌, ◌-◌, ◌≤◌, ◌<◌, ◌∷◌, ◌++◌, [], ℕ, List, length, refl, sym, ap, subst, ◌∙◌, arith}
+use Rattle.std.proofs.Common.{◌≡◌, ◌+◌, ◌≤◌, length, sym, ap, subst, ◌∙◌, arith}
 use Rattle.scr_wire.specs.Lane.{decided}
-use Rattle.scr_log.specs.Passes.{LogsOf, OfCore, IsNext}
-use Rattle.scr_replica.specs.declared.standing.Standing.TheVariants as standing
-use Rattle.scr_replica.specs.declared.turn.Turn.TheVariants.{Moved}
-use Rattle.scr_replica.specs.declared.turn.Pending.TheVariants.{NoRoom}
+use Rattle.scr_log.specs.Passes.{LogsOf, OfCore}
 use Rattle.scr_replica.specs.Replicas.{Replica, at_hand}
-use Rattle.scr_replica.specs.Stages.{replica_of, Keeps, HasOnlyLooked, Rests}
-use Rattle.scr_replica.proofs.WholeTurns.{going, few-hand, within-run, keeps-looks, keeps-published, goes-published}
+use Rattle.scr_replica.specs.Stages.{replica_of, Keeps}
+use Rattle.scr_replica.proofs.WholeTurns.{going, few-hand, within-run, keeps-looks, keeps-published}
 use Rattle.scr_replica.proofs.replica.Replica.publish.Goals as goal
 
 pub overflow_add-p : goal.overflow_add-p

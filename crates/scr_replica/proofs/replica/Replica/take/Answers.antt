@@ -1,13 +1,10 @@
-use Rattle.std.proofs.Common.{◌≡◌, ◌≢◌, ◌+◌, ◌∷◌, ◌++◌, [], ℕ, List, refl, sym, ap, subst, ◌∙◌}
+use Rattle.std.proofs.Common.{◌≡◌, sym, ap, subst, ◌∙◌}
 use Rattle.scr_wire.specs.Lane.{decided}
-use Rattle.scr_lane.specs.Messages.{Route, SpellsMessage, route}
+use Rattle.scr_lane.specs.Messages.{Route, SpellsMessage}
 use Rattle.scr_lane.specs.Ends.{End, moved}
-use Rattle.scr_replica.specs.declared.standing.Standing.TheVariants as standing
-use Rattle.scr_replica.specs.declared.turn.Turn.TheVariants.{Moved, Ended}
-use Rattle.scr_replica.specs.declared.turn.Pending.TheVariants.{Empty}
 use Rattle.scr_replica.specs.Replicas.{Replica}
-use Rattle.scr_replica.specs.Stages.{replica_of, Keeps, HasOnlyLooked, Rests}
-use Rattle.scr_replica.proofs.WholeTurns.{going, looked-lane, through-all, keeps-ended, keeps-looks, keeps-taken, more-comes, goes-ended, goes-taken}
+use Rattle.scr_replica.specs.Stages.{replica_of, Keeps}
+use Rattle.scr_replica.proofs.WholeTurns.{going, looked-lane, through-all, keeps-ended, keeps-taken}
 use Rattle.scr_replica.proofs.replica.Replica.take.Goals as goal
 
 pub invariant_of-self : goal.invariant_of-self

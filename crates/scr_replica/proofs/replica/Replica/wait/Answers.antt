@@ -1,4 +1,4 @@
-use Rattle.std.proofs.Common.{◌≡◌, ◌≢◌, ◌∷◌, ◌++◌, [], sym, ap, subst, ◌∙◌}
+use Rattle.std.proofs.Common.{◌∷◌, ◌++◌, [], sym, ap, subst, ◌∙◌}
 use Rattle.scr_log.specs.declared.view.Noted.TheVariants.{Halt}
 use Rattle.scr_log.specs.Passes.{OfCore}
 use Rattle.scr_replica.specs.declared.standing.Standing.TheVariants as standing
