@@ -26,7 +26,7 @@ pub(crate) fn is_delivered(plan: &RunPlan, n: u32, fate: Fate) -> bool
 {
     match fate {
         Fate::Lost => false,
-        Fate::Once { delay } | Fate::Twice { delay } => delay == 0 || is_in_time(plan, n),
+        _ => fate.delay() == 0 || is_in_time(plan, n),
     }
 }
 
