@@ -1,2 +1,5 @@
 pub mod Prompt
 pub mod Putting
+pub mod RowsOfFrames
+pub mod Ranges
+pub mod FrameAdded

@@ -3,3 +3,4 @@ pub mod Streamed
 pub mod Frames
 pub mod Tests
 pub mod Reading
+pub mod Taken

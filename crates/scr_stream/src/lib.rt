@@ -7,6 +7,7 @@ mod format;
 mod header;
 mod put;
 mod read;
+mod scratch;
 mod taken;
 #[cfg(test)]
 mod tests;
