@@ -3,3 +3,5 @@ pub mod Putting
 pub mod RowsOfFrames
 pub mod Ranges
 pub mod FrameAdded
+pub mod EntryTests
+pub mod Differing

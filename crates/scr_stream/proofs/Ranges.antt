@@ -1,9 +1,19 @@
 -- Lists over a range of numbers.
-use Rattle.std.proofs.Common.{◌≡◌, ℕ, zero, suc, ◌+◌, ◌-◌, ◌<◌, ◌≤◌, Bool, true, false, cond, not, List, [], ◌∷◌, ◌++◌, length, get_or, refl, sym, ap, ◌∙◌, subst, arith}
+use Rattle.std.proofs.Common.{◌≡◌, ℕ, zero, suc, ◌+◌, ◌-◌, ◌<◌, ◌≤◌, ◌⊎◌, Bool, true, false, cond, not, ◌||◌, List, [], ◌∷◌, ◌++◌, length, get_or, refl, sym, ap, ◌∙◌, subst, inl, inr, arith}
 use Rattle.std.specs.Prelude.{map, filter}
 use Rattle.std.specs.List.{list_any, range_with_len}
-use Rattle.std.proofs.lemmas.List.{append-nil}
+use Rattle.std.proofs.lemmas.Bool.{cases_lt}
+use Rattle.std.proofs.lemmas.List.Folds.{list_any-append}
+use Rattle.scr_plan.proofs.FromOne.{range-suc}
 use Rattle.std.proofs.lemmas.Bool.Decides.{nat_tests}
+
+or-false : (b : Bool) → (b || false) ≡ b
+or-false true = refl
+or-false false = refl
+
+or-true : (b : Bool) → (b || true) ≡ true
+or-true true = refl
+or-true false = refl
 
 -- equal at each number
 pub map-same : {X : Type 0} (f g : ℕ → X) (a n : ℕ) → ((p : ℕ) → a ≤ p → p < a + n → f p ≡ g p) → map f (range_with_len a n) ≡ map g (range_with_len a n)
@@ -52,3 +62,34 @@ filter-grows f a zero i j d less below = absurd (omega arith)
 filter-grows f a (suc n) i j d less below =
     grows-by (f a) a d (filter f (range_with_len (a + 1) n)) (λ k within. filter-from f (a + 1) n k d within)
     (λ k l fewer within. filter-grows f (a + 1) n k l d fewer within) i j less below
+
+pub any-same : (f g : ℕ → Bool) (a n : ℕ) → ((p : ℕ) → a ≤ p → p < a + n → f p ≡ g p) → list_any f (range_with_len a n) ≡ list_any g (range_with_len a n)
+any-same f g a zero same = refl
+any-same f g a (suc n) same =
+    ap (λ (b : Bool). b || list_any f (range_with_len (a + 1) n)) (same a (omega arith) (omega arith))
+    ∙ ap (λ (b : Bool). g a || b) (any-same f g (a + 1) n (λ p from to. same p (omega arith) (omega arith)))
+
+pub any-none : (f : ℕ → Bool) (a n : ℕ) → ((p : ℕ) → a ≤ p → p < a + n → f p ≡ false) → list_any f (range_with_len a n) ≡ false
+any-none f a zero none = refl
+any-none f a (suc n) none =
+    ap (λ (b : Bool). b || list_any f (range_with_len (a + 1) n)) (none a (omega arith) (omega arith))
+    ∙ any-none f (a + 1) n (λ p from to. none p (omega arith) (omega arith))
+
+-- one number more
+pub any-more : (f : ℕ → Bool) (a n : ℕ) → list_any f (range_with_len a (n + 1)) ≡ (list_any f (range_with_len a n) || f (a + n))
+any-more f a n =
+    let next : n + 1 ≡ suc n = omega arith in
+    ap (λ (k : ℕ). list_any f (range_with_len a k)) next
+    ∙ ap (list_any f) (range-suc a n) ∙ list_any-append f (range_with_len a n) ((a + n) ∷ [])
+    ∙ ap (λ (b : Bool). list_any f (range_with_len a n) || b) (or-false (f (a + n)))
+
+-- one of them passes
+pub any-found : (f : ℕ → Bool) (a n p : ℕ) → a ≤ p → p < a + n → f p ≡ true → list_any f (range_with_len a n) ≡ true
+any-found f a zero p from to passes = absurd (omega arith)
+any-found f a (suc n) p from to passes =
+    elim (cases_lt a p) [
+      | inl less ↦ ap (λ (b : Bool). f a || b) (any-found f (a + 1) n p (omega arith) (omega arith) passes) ∙ or-true (f a)
+      | inr le ↦
+          let same : a ≡ p = omega arith in
+          ap (λ (b : Bool). b || list_any f (range_with_len (a + 1) n)) (ap f same ∙ passes)
+    ]
