@@ -24,7 +24,7 @@ lists-parts f i n below =
           ∙ ap (flat_map f) (range-append 1 (i + 1) (n - (i + 1)))
           ∙ flat_map-append f (range_with_len 1 (i + 1)) (range_with_len (1 + (i + 1)) (n - (i + 1)))
           ∙ ap (λ (x : List ℕ). x ++ flat_map f (range_with_len (1 + (i + 1)) (n - (i + 1))))
-              (ap (λ (k : ℕ). flat_map f (range_with_len 1 k)) (sym next) ∙ lists-suc f i ∙ ap (λ (k : ℕ). flat_map f (range_with_len 1 i) ++ f k) next),
+          (ap (λ (k : ℕ). flat_map f (range_with_len 1 k)) (sym next) ∙ lists-suc f i ∙ ap (λ (k : ℕ). flat_map f (range_with_len 1 i) ++ f k) next),
     )
 
 -- what one number more adds is passed on

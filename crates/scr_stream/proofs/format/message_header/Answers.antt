@@ -7,5 +7,5 @@ pub returns : goal.returns
 returns c =
     sym (append-nil _)
     ∙ header_written _ [] c.args.kind c.args.number c.args.count c.code_of.result c.to_be_bytes.result c.to_be_bytes-2.result
-        refl c.code_of.ensures c.to_be_bytes.ensures c.to_be_bytes-2.ensures
+    refl c.code_of.ensures c.to_be_bytes.ensures c.to_be_bytes-2.ensures
     ∙ append-nil _
