@@ -1,6 +1,6 @@
 -- A frame by what becomes of it on the link: one that is lost isn't delivered, and one that isn't late is.
 use Rattle.std.proofs.Common.{◌≡◌, ◌≢◌, ℕ, ◌≤◌, Bool, true, false, cond, refl, sym, ap, ◌∙◌, arith}
-use Rattle.scr_plan.specs.Link.{Link, loses, repeats, delays_by, fate_of, delay_in}
+use Rattle.scr_plan.specs.Link.{loses, repeats, delays_by, fate_of, delay_in}
 use Rattle.scr_plan.specs.Plan.{Plan, frame_count}
 use Rattle.scr_plan.specs.Delivered.{delivers}
 use Rattle.scr_plan.specs.declared.link.Fate.{Fate}

@@ -1,12 +1,12 @@
 -- The messages of a stream put one after another.
-use Rattle.std.proofs.Common.{◌≡◌, ℕ, zero, suc, ◌+◌, ◌-◌, ◌<◌, ◌≤◌, List, [], ◌∷◌, ◌++◌, length, take, drop, Option, Result, Ok, Err, refl, sym, ap, ◌∙◌, subst, append_assoc, arith}
+use Rattle.std.proofs.Common.{◌≡◌, ℕ, suc, ◌+◌, ◌-◌, ◌<◌, ◌≤◌, List, [], ◌++◌, length, take, drop, Option, Result, refl, sym, ap, ◌∙◌, subst, append_assoc, arith}
 use Rattle.std.specs.List.{flat_map, range_with_len}
 use Rattle.std.proofs.lemmas.List.{drop-take, append-nil}
 use Rattle.std.proofs.lemmas.Grind.{flat_map-append}
-use Rattle.scr_base.specs.Streams.{StopsWithin, Passes, BatchesText, WritesText}
+use Rattle.scr_base.specs.Streams.{StopsWithin, Passes, WritesText}
 use Rattle.scr_base.proofs.Streams.{Appends-none, Passes-then, Passes-stops, StopsWithin-longer, WritesText-finish}
 use Rattle.scr_base.specs.declared.row.Row.{Row}
-use Rattle.scr_plan.specs.Plan.{Plan, frame_count}
+use Rattle.scr_plan.specs.Plan.{Plan}
 use Rattle.scr_plan.specs.Kept.{first_carried}
 use Rattle.scr_wire.specs.declared.message.Message.TheVariants.{End}
 use Rattle.scr_wire.specs.declared.message.MessageKind.TheVariants as kind

@@ -1,12 +1,10 @@
-use Rattle.std.proofs.Common.{◌≡◌, ◌≤◌, ◌++◌, ◌-◌, ℕ, List, arith, subst, ap, refl, take, drop}
+use Rattle.std.proofs.Common.{◌≡◌, ◌≤◌, ◌++◌, ◌-◌, ℕ, List, arith, subst, refl, take, drop}
 use Rattle.std.proofs.lemmas.Result.{err_from_is_err_and}
 use Rattle.scr_base.specs.Streams.{StopsWithin, BatchesText}
 use Rattle.scr_base.proofs.Streams.{StopsWithin-longer, BatchesText-then}
 use Rattle.scr_base.specs.declared.row.Row.{Row}
 use Rattle.scr_plan.specs.Kept.{first_carried}
-use Rattle.scr_plan.specs.Plan.{Plan}
-use Rattle.scr_wire.specs.Spelling.{rows_bytes, spelling}
-use Rattle.scr_wire.specs.Lane.{frame}
+use Rattle.scr_wire.specs.Spelling.{rows_bytes}
 use Rattle.scr_stream.proofs.Putting.{frame-spelled}
 use Rattle.scr_stream.proofs.put.put_frame.Goals as goal
 

@@ -1,5 +1,4 @@
-use Rattle.std.proofs.Common.{◌≡◌, ℕ, List, [], Bool, true, false, cond, sym, ◌∙◌, subst}
-use Rattle.std.specs.Prelude.{Result, Ok}
+use Rattle.std.proofs.Common.{◌≡◌, [], Bool, true, false, cond, sym, ◌∙◌, subst}
 use Rattle.scr_base.specs.Streams.{BatchesText, Passes}
 use Rattle.scr_plan.specs.Delivered.{delivers}
 use Rattle.scr_wire.specs.Spelling.{spelling}

@@ -1,4 +1,4 @@
-use Rattle.std.proofs.Common.{◌≡◌, ◌<◌, ◌++◌, ℕ, List, arith, ap, length}
+use Rattle.std.proofs.Common.{◌<◌, arith, ap, length}
 use Rattle.std.proofs.lemmas.Result.{err_from_is_err_and}
 use Rattle.scr_stream.specs.Streamed.{frame_at}
 use Rattle.scr_plan.specs.Plan.{frame_count}

@@ -1,4 +1,4 @@
-use Rattle.std.proofs.Common.{◌≡◌, ◌++◌, ℕ, List, arith, subst}
+use Rattle.std.proofs.Common.{◌++◌, ℕ, List, arith, subst}
 use Rattle.std.proofs.lemmas.Result.{err_from_is_err_and}
 use Rattle.scr_base.specs.Streams.{StopsWithin, Passes}
 use Rattle.scr_base.proofs.Pieces.{Passes-more, Passes-fails}
