@@ -3,7 +3,8 @@
 //! **What it does.** Frame n of a run carries packet n and, as history, some packets before it; the cores take the
 //! frames in turn ([`core_of`], [`carried_from`]). A [`Link`] lies between the sequencer and the cores: it loses frames,
 //! brings them twice, or brings them later. Its lists are read from text by [`Drops::read`] and [`Delays::read`], which
-//! tell the cause and the place of the first piece that is refused. [`Link::fate`] tells what becomes of a frame, [`Link::fates`]
+//! tell the cause and the place of the first piece that is refused; [`Link::lost`] takes the numbers of the frames that it
+//! loses. [`Link::fate`] tells what becomes of a frame, [`Link::fates`]
 //! of all, and [`Link::delivered`] whether one comes in time. [`kept`] tells whether any delivered frame carries a packet, and
 //! [`counts`] what one core does. A [`RunPlan`] holds what a run is made of.
 //!

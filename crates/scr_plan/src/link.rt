@@ -112,6 +112,21 @@ impl Link {
         Link::make(alloc, drops, Drops::none(alloc), Delays::none(alloc))
     }
 
+    /// The link on which just these frames are missing, in growing order.
+    pub fn lost(alloc: Global, numbers: Vec<u32>) -> Self
+        requires from_one { (i d : ℕ) → i < length numbers.items → 1 ≤ slice_index_or numbers.items i d }
+        requires growing { (i j d : ℕ) → i < j → j < length numbers.items → slice_index_or numbers.items i d < slice_index_or numbers.items j d }
+        ensures link { result ≡ record { drops = []; repeats = []; delays = []; missing = numbers.items } }
+        ensures ranges { IsLink result }
+    {
+        Link {
+            drops: Drops::none(alloc),
+            repeats: Drops::none(alloc),
+            delays: Delays::none(alloc),
+            missing: numbers,
+        }
+    }
+
     // Whether the frame doesn't arrive.
     fn loses(&self, n: u32) -> bool
         ensures answer { result ≡ loses self.now n }

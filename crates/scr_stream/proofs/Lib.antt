@@ -1,0 +1,2 @@
+mod Prompt
+mod Putting

@@ -1,0 +1,28 @@
+//! A run as one stream of bytes: what the cores are delivered, written one message after another.
+//!
+//! **What it does.** [`write_stream`] appends to any sink a header that names the program, the cores and the history, then
+//! the messages of the frames that are delivered, in growing order of their numbers, and last the end. Frames that come
+//! late or twice on the link stand once, at their number, and those that come too late don't stand there.
+//!
+//! **What a contract sees.** A plan as in scr_plan, a sink as in scr_base, and the stream of a plan as a list of bytes
+//! (specs/Streamed.antt), made of the spellings of scr_wire and of what scr_plan says is delivered.
+//!
+//! **What is proved.** A call that succeeds has appended just the stream of its plan; one that fails, a front of it and
+//! not all. An error of the sink is counted there, and nothing else is; where there was no memory for the call itself, the
+//! sink is as it was.
+//!
+//! **What is only tested.** That a stream written down by hand is the one that is written, over a link that loses, repeats
+//! and delays too, and that there is a stream where there is memory.
+//!
+//! **Limits.** Those of a plan. What becomes of each frame is found out once, before anything is written, and takes memory
+//! for as many as there are; after that nothing is allocated but by the sink. A frame costs its rows, and a late one also a
+//! look at the frames of its core up to the step at which it comes.
+#![tactic(auto)]
+
+mod format;
+mod put;
+#[cfg(test)]
+mod tests;
+mod write;
+
+pub use write::write_stream;
