@@ -40,7 +40,8 @@ impl DropRange {
         }
     }
 
-    // The range that has the numbers of both, where the other one goes in the same steps and begins at a number of this one.
+    // The range that has the numbers of both, where the other one goes in the same steps and begins at a number of this
+    // one.
     fn joined(&self, other: &DropRange) -> Option<DropRange>
         requires own { IsRange self.now }
         requires other { IsRange other.now }
