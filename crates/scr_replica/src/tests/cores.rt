@@ -137,23 +137,62 @@ fn two_cores_with_one_slot(rt: HostRuntime) -> Result<(), Fail> {
     let Ok(mut one) = Replica::<Ddos>::make(rt.alloc(), &settings, to_one, one, &logs) else {
         return Err("memory".into());
     };
-    assert!(rt; answers(&rt, &settings, &mut zero, &logs, Turn::Waiting(Pending::Empty)));
+    assert!(rt;
+        answers(
+            &rt,
+            &settings,
+            &mut zero,
+            &logs,
+            Turn::Waiting(Pending::Empty)
+        )
+    );
     assert!(rt; feed_all(&rt, &mut feed)?);
     for wanted in [MOVED, MOVED, verdict(1, 0), MOVED, no_room(1, 0)] {
-        assert!(rt; answers(&rt, &settings, &mut zero, &logs, wanted), "0: {wanted:?}");
+        assert!(rt;
+            answers(&rt, &settings, &mut zero, &logs, wanted),
+            "0: {wanted:?}"
+        );
     }
-    for wanted in [MOVED, MOVED, MOVED, MOVED, verdict(2, 0), MOVED, no_room(0, 1)] {
-        assert!(rt; answers(&rt, &settings, &mut one, &logs, wanted), "1: {wanted:?}");
+    for wanted in [
+        MOVED,
+        MOVED,
+        MOVED,
+        MOVED,
+        verdict(2, 0),
+        MOVED,
+        no_room(0, 1),
+    ] {
+        assert!(rt;
+            answers(&rt, &settings, &mut one, &logs, wanted),
+            "1: {wanted:?}"
+        );
     }
     for wanted in [MOVED, MOVED, MOVED, verdict(3, 1), MOVED, no_room(1, 2)] {
-        assert!(rt; answers(&rt, &settings, &mut zero, &logs, wanted), "0: {wanted:?}");
+        assert!(rt;
+            answers(&rt, &settings, &mut zero, &logs, wanted),
+            "0: {wanted:?}"
+        );
     }
-    let rest = [MOVED, MOVED, MOVED, verdict(4, 1), MOVED, Turn::Ended, Turn::Ended];
+    let rest = [
+        MOVED,
+        MOVED,
+        MOVED,
+        verdict(4, 1),
+        MOVED,
+        Turn::Ended,
+        Turn::Ended,
+    ];
     for wanted in rest {
-        assert!(rt; answers(&rt, &settings, &mut one, &logs, wanted), "1: {wanted:?}");
+        assert!(rt;
+            answers(&rt, &settings, &mut one, &logs, wanted),
+            "1: {wanted:?}"
+        );
     }
     for wanted in [MOVED, MOVED, Turn::Ended] {
-        assert!(rt; answers(&rt, &settings, &mut zero, &logs, wanted), "0: {wanted:?}");
+        assert!(rt;
+            answers(&rt, &settings, &mut zero, &logs, wanted),
+            "0: {wanted:?}"
+        );
     }
     let (pass, counts, flows) = zero.take_apart(&settings);
     assert_eq!(rt; (pass.core(), pass.published(), flows), (0, 4, 1));
@@ -179,7 +218,10 @@ fn a_core_that_waits_is_halted(rt: HostRuntime) -> Result<(), Fail> {
     assert!(rt; feed_all(&rt, &mut feed)?);
     let not_yet = Turn::Waiting(Pending::NotYet { core: 1, tag: 0 });
     for wanted in [MOVED, MOVED, verdict(1, 0), MOVED, MOVED, not_yet, not_yet] {
-        assert!(rt; answers(&rt, &settings, &mut zero, &logs, wanted), "{wanted:?}");
+        assert!(rt;
+            answers(&rt, &settings, &mut zero, &logs, wanted),
+            "{wanted:?}"
+        );
     }
     assert!(rt; !zero.halted(&logs));
     logs.halt_by_main(&mut main);
@@ -288,7 +330,10 @@ fn two_cores_in_threads(rt: HostRuntime) -> Result<(), Fail> {
             assert_eq!(rt; own.verdicts.get(i / 2), Some(given), "at {i}");
         }
         assert_eq!(rt; zero.verdicts.len() + one.verdicts.len(), 4);
-        assert_eq!(rt; [zero.counts, one.counts].as_slice(), phases.cores.as_slice());
+        assert_eq!(rt;
+            [zero.counts, one.counts].as_slice(),
+            phases.cores.as_slice()
+        );
     }
     Ok(())
 }
