@@ -34,7 +34,6 @@ use Rattle.scr_replica.proofs.Deciding.{Stands, decided-next, greatest-next, sta
 row_is : (plan : Plan) (core p : ℕ) (entry : Entry) → entry ≡ entry_of plan core p → row_in entry ≡ final_entry plan core p
 row_is plan core p entry is = ap row_in is ∙ row_in-entry_with (delivers_to plan core p) (final_entry plan core p)
 
-
 ne-le : (p n k : ℕ) → (p ≡ n → ⊥) → p ≤ n → k ≡ n → p ≤ k - 1
 ne-le p n k other le same = omega arith
 
@@ -135,8 +134,7 @@ module _ (plan : Plan) (core m p : ℕ) (it : Message) (is : slice_get (lane pla
 
   lost-none : entry_of plan core p ≡ Lost → (delivers_to plan core p ≡ false) × (final_entry plan core p ≡ None)
   lost-none lost =
-      let none : final_entry plan core p ≡ None = sym (row_is plan core p Lost (sym lost)) in
-      (
+      let none : final_entry plan core p ≡ None = sym (row_is plan core p Lost (sym lost)) in (
         false_from_ne_true (delivers_to plan core p)
             (λ own. let known = is_delivered-entry plan p from all core ∙ own in let is_lost = ap is_delivered lost in absurd cc),
         none,
@@ -144,6 +142,7 @@ module _ (plan : Plan) (core m p : ℕ) (it : Message) (is : slice_get (lane pla
     where
       from : 1 ≤ p
       from = omega arith
+
       all : p ≤ frame_count plan
       all = let most = decided-le plan core (m + 1) in omega arith
 
@@ -155,6 +154,7 @@ module _ (plan : Plan) (core m p : ℕ) (it : Message) (is : slice_get (lane pla
       lost is =
           let both = lost-none is in
           ap (λ (o : Option Row). is_some o && eqb p (decided plan core (m + 1))) both.1 ∙ sym both.0
+
       by : (x : Message) → it ≡ x → (is_some (final_entry plan core p) && eqb p (decided plan core (m + 1))) ≡ delivers_to plan core p
       by (Frame n rows) e =
           elim (cases_eq p n) as (λ _. (is_some (final_entry plan core p) && eqb p (decided plan core (m + 1))) ≡ delivers_to plan core p) [
@@ -188,6 +188,7 @@ module _ (plan : Plan) (core m : ℕ) (it : Message) (is : slice_get (lane plan 
     where
       next : decided plan core (m + 1) ≡ max (decided plan core m) (decided_by plan it)
       next = decided-next plan core m it is
+
       by : (x : Message) → it ≡ x → decided_with plan.history (decided plan core m) taken it ≡ decided plan core (m + 1)
       by (Frame n rows) e =
           elim (cases_lt taken n) as (λ _. decided_with plan.history (decided plan core m) taken it ≡ decided plan core (m + 1)) [
@@ -272,7 +273,7 @@ module _ (plan : Plan) (core m : ℕ) (is_plan : IsPlan plan) where
       → HasHeard plan core m old
       → ((message : Message) → Spells message packet → (said ≡ kind_of message) × (number ≡ number_of message))
       → ((message : Message) → said ≡ kind_of message → number ≡ number_of message
-          → new.decided ≡ decided_with plan.history old.decided old.taken message)
+      → new.decided ≡ decided_with plan.history old.decided old.taken message)
       → new.taken ≡ max old.taken number → (new.whole ≡ true → said ≡ kind.End) → (new.whole ≡ false → said ≡ kind.End → ⊥)
       → new.packet ≡ Some packet → HasHeard plan core (m + 1) new
   hears packet old new said number shown heard says decides top whole more last =

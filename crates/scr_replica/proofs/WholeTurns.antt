@@ -239,8 +239,7 @@ module _ {State : Type 0} where
     pub through-all : h.whole ≡ true → it.pass.finished ≡ decided plan core it.lane.count → IsThrough it
     through-all whole all =
         let is = was.replica in
-        let last : it.lane.count ≡ length (lane plan core) = was.heard.whole whole in
-        (
+        let last : it.lane.count ≡ length (lane plan core) = was.heard.whole whole in (
           last ∙ sym (ap message_count is.its_lane),
           all ∙ decided-whole plan core it.lane.count (omega arith),
         )
@@ -567,7 +566,7 @@ module _ {State : Type 0} where
 
         pub turn-finished : (given : Option Given) → StandsFor state (kept_rows it.pass.logs.plan p)
             → course_up_to verdict_after it.pass.logs.plan it.pass.core p
-                ≡ course_up_to verdict_after it.pass.logs.plan it.pass.core it.pass.finished ++ option_to_list given
+            ≡ course_up_to verdict_after it.pass.logs.plan it.pass.core it.pass.finished ++ option_to_list given
             → IfSome given (λ g. g.number ≡ p) → IsTurn StandsFor verdict_after before done_with (turn_of given)
         turn-finished given stands verdict number = record {
           stands = stands;
@@ -581,11 +580,12 @@ module _ {State : Type 0} where
           where
             told : (given : Option Given)
                 → course_up_to verdict_after it.pass.logs.plan it.pass.core p
-                    ≡ course_up_to verdict_after it.pass.logs.plan it.pass.core it.pass.finished ++ option_to_list given
+                ≡ course_up_to verdict_after it.pass.logs.plan it.pass.core it.pass.finished ++ option_to_list given
                 → GivesVerdict verdict_after before done_with (turn_of given)
             told given e =
                 subst (λ (q : OfCore). course_up_to verdict_after q.logs.plan q.core p ≡ course_up_to verdict_after q.logs.plan q.core q.finished ++ option_to_list (given_in (turn_of given)))
                 has.pass (e ∙ ap (λ (o : Option Given). course_up_to verdict_after it.pass.logs.plan it.pass.core it.pass.finished ++ option_to_list o) (given-of given))
+
             by : (given : Option Given) → IfSome given (λ g. g.number ≡ p) → Answers before done_with (turn_of given)
             by None number = (running, inr (inr (inl (let same = finished_is in omega arith))))
             by (Some g) number = (running, number)

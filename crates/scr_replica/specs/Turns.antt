@@ -62,7 +62,7 @@ module _ {State : Type 0} where
   Moves old new =
       (old.lane.count < new.lane.count) ⊎ ((old.pass.published < new.pass.published) ⊎ ((old.pass.finished < new.pass.finished)
       ⊎ ((old.lane.count ≡ new.lane.count) × (old.pass.published ≡ new.pass.published) × (old.pass.finished ≡ new.pass.finished)
-        × (old.lost_to < new.lost_to))))
+      × (old.lost_to < new.lost_to))))
 
   -- the replica waits for this, by the turn's own look: for a message, where all that was decided is finished; for another
   -- core's entry for the packet at hand, which is published and lost to this core; or for a slot of the packet at hand

@@ -7,10 +7,16 @@
 //! and gives the verdicts of the frames that were delivered to it. [`gather`] merges the verdicts of all cores in the order
 //! of the frames.
 //!
+//! A [`Replica`] is one core as a thread runs it: [`Replica::turn`] takes the next message of its lane, publishes what that
+//! decides in its own log, asks the logs of the others for a packet that is lost to it, or applies or skips a packet and
+//! finishes it. [`run_core`] makes turns until the end, pauses where it waits, and goes through a [`Gate`] once in and once
+//! out.
+//!
 //! **What a contract sees.** A program by the six definitions of its trait. The one-core answer of a plan is defined over
 //! two of them, in specs/OneCore.antt: the rows of the kept packets in order, the verdict of each delivered frame's packet
 //! after the kept packets before it, and the entries after all kept packets. What a core answers, and what all answer
-//! together, are records of lists and numbers.
+//! together, are records of lists and numbers. A replica is seen as the end of its lane, its pass, its state, its counts,
+//! how many cores were seen to have lost the packet at hand, and how it stands.
 //!
 //! **What is proved.** A run by phases gives the verdicts and the entries of the one-core answer, and the counts of each core
 //! as the plan defines them, for every link. It returns, and waits for nobody. Want of memory is its only other answer. The
@@ -19,13 +25,21 @@
 //! nothing, the one-core answer is over all rows ([`one_core_of_all`]) and that of one core that is given every frame
 //! ([`none_dropped`]). One verdict is given for each delivered frame, in capture order ([`one_verdict_each`]).
 //!
+//! After each turn of a replica its state is that of the kept packets up to the one that it has finished, its counts are
+//! those up to there, and it has published no more than its messages decide and at most one packet more than it has finished.
+//! A turn gives a verdict exactly where it finishes the packet of a frame that was delivered to its core, and it is the
+//! one-core verdict. It answers that it waits, or is halted, only by a look of its own, moves one of the numbers where it
+//! answers that it moved, never sets the halt word, and stays ended, halted or out of memory. [`run_core`] answers what the
+//! one-core answer has for its core; where it stops it hands its pass back with the look or the halt that says why.
+//!
 //! **What is only tested.** That there is an answer where there is memory, and the verdicts, counts and entries of runs that
 //! were worked out by hand.
 //!
 //! **Limits.** Those of a plan: at most 1,000,000 packets, 16 cores and a history of 64. Each core holds 64 bytes for each
 //! packet. A run's time grows with frames times cores; the fates of all frames are told once, before the first. Where no
 //! frame that carries a packet was delivered, or few were, a core asks its peers one by one, at most one look for each.
-//! Nothing here starts a thread.
+//! Nothing here starts a thread. A turn may wait for the queue of its lane to give what was sent, and [`run_core`] for other
+//! cores: no proof says that either returns. A replica decodes the last message twice for each packet that it decides.
 #![tactic(auto)]
 
 mod applying;
