@@ -22,12 +22,12 @@ use crate::host::Host;
 use crate::names::names_of;
 use crate::status::Status;
 use scr_base::{OutOfMemory, Row, Sink, Source};
+use scr_crew::run_threads;
 use scr_frame::parse;
 use scr_pcap::FrameBuf;
 use scr_pcapng::AnyReader;
 use scr_plan::{CoreCounts, RunPlan};
 use scr_program::Program;
-use scr_crew::run_threads;
 use scr_replica::{Gate, Gathered, run_phases};
 use scr_report::{FrameCounts, Report};
 use scr_words::Shape;
@@ -91,14 +91,7 @@ pub fn run_engine<P: Program, S: Source, O: Sink, G: Gate + Sync, R: Threads + W
     ensures wants { IsWantsBehind result (O.wants out.old) (O.wants out.new) }
 {
     let host = Host { rt, alloc, gate };
-    Status::of(run_cores::<P, S, O, G, R>(
-        &host,
-        settings,
-        shape,
-        with_verdicts,
-        capture,
-        out,
-    ))
+    Status::of(run_cores::<P, S, O, G, R>(&host, settings, shape, with_verdicts, capture, out))
 }
 
 /// The same, as how it ended tells it.
