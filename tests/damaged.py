@@ -87,13 +87,18 @@ def damaged(seed):
     return data
 
 
-def words_for(seed):
-    """Words of a run over some cores and a link, or of `plain`."""
+def dealt_words(seed):
+    """Words of a run over some cores and a link."""
     chosen = RUN[seed % len(RUN)]
-    own = f"program={chosen} {settings(seed, chosen)}".split()
+    return ["run", f"program={chosen}", *settings(seed, chosen).split(), *dealt(seed)[1]]
+
+
+def words_for(seed):
+    """Words of a run, in threads or not, or of `plain`."""
     if seed % 6 == 0:
-        return ["plain", *own]
-    return ["run", *own, *dealt(seed)[1], *(["threads=no"] if seed % 4 == 0 else [])]
+        chosen = RUN[seed % len(RUN)]
+        return ["plain", f"program={chosen}", *settings(seed, chosen).split()]
+    return [*dealt_words(seed), *(["threads=no"] if seed % 4 == 0 else [])]
 
 
 def main(cases=10_000, seed=1, program=f"{TOP}/crates/scr_cli/out/scr_cli"):

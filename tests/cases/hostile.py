@@ -1,11 +1,10 @@
 """A system that refuses calls, and captures that were damaged."""
-from captures import capture
-from damaged import damaged, words_for
+from damaged import damaged, dealt_words, words_for
 from refusing import each_refused, environment, library, one_refused, whole_outcome
 from running import compare, difference, outcome
 from traffic import capture as made, link
 
-from .known import FOUR, OTHER_SOURCE, SOURCE
+from .known import FOUR
 
 # Four frames, and four of which the second is lost. Then a long capture over a link that loses, repeats and delays.
 SHORT = ("program=ddos threshold=2", "program=ddos threshold=2 cores=2 history=1 drop=2")
@@ -78,11 +77,9 @@ def damaged_captures(program):
 
 
 def threads_side_by_side(program):
-    """With threads a run gives the bytes that it gives without, on any cores, ring and link, and on one processor alone."""
-    for seed in range(21_000, 21_400):
-        data, words = capture([SOURCE, OTHER_SOURCE] * (seed % 150)) if seed % 9 == 0 else made(seed, 40 + seed * 37 % 400), words_for(seed)
-        words = [word for word in words if not word.startswith("threads=")]
-        alone = ["taskset", "-c", "0"] if seed % 5 == 0 else []
+    """In threads a run gives the bytes that it gives in turns, on any cores, ring and link, and on one processor alone."""
+    for seed in range(21_000, 22_000):
+        data, words = made(seed, 40 + seed * 37 % 400), dealt_words(seed)
         wanted = outcome(program, [*words, "threads=no"], data)
-        found = outcome(alone[0] if alone else program, [*alone[1:], *([program] if alone else []), *words], data)
-        yield f"seed {seed}", difference(found, wanted, words)
+        call = ["taskset", "-c", "0", program, *words] if seed % 5 == 0 else [program, *words]
+        yield f"seed {seed}", difference(outcome(call[0], call[1:], data), wanted, words)
