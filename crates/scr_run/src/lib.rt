@@ -1,10 +1,10 @@
 //! The run of `scr`, from the words of the command line to the report.
 //!
 //! **What it does.** [`scr_main`] reads the words ([`read_words`]), takes a capture to its end or makes one up, and lets one
-//! of the five programs, a chain of two or a table give verdicts: on its own ([`plain_run`]), or on up to 16 cores that
-//! share no table ([`run_engine`]). Then it writes the report. Where a run ends otherwise, it writes a line about it to a
-//! second sink. A [`Status`] tells how it ended and has the exit code, and [`write_fault_line`] writes the line of any
-//! status.
+//! of the five programs, a chain of two or a table give verdicts: on its own ([`plain_run`]), or on up to 16 cores, in
+//! threads or in turns, that share no table ([`run_engine`]). Then it writes the report. Where a run ends otherwise, it
+//! writes a line about it to a second sink. A [`Status`] tells how it ended and has the exit code, and
+//! [`write_fault_line`] writes the line of any status.
 //!
 //! **What a contract sees.** Words, captures, reports and lines as lists of bytes, and streams as scr_base has them, by
 //! what is left or written and by counts of failures and wants. A program is seen by its row of a frame, its verdict of a
@@ -22,8 +22,8 @@
 //! that asks for memory that it doesn't need, and lacks it, would be proved too. That settings, reports and lines, written
 //! by hand, are what the definitions say.
 //!
-//! **Limits.** A capture of a million frames, whose rows are held in memory. The cores go one after another, whatever
-//! `threads` and `ring` say. Where a stream doesn't tell its bytes, as the standard streams don't, contracts speak of its
+//! **Limits.** A capture of a million frames, whose rows are held in memory. A run whose cores are threads waits for them, and
+//! nothing says that it returns. Where a stream doesn't tell its bytes, as the standard streams don't, contracts speak of its
 //! counts alone.
 #![tactic(auto)]
 
