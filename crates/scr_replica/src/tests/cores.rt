@@ -1,10 +1,9 @@
 //! A replica that is fed by hand, turn by turn, and cores in threads beside a run by phases.
-ghost use Rattle.std.specs.Prelude.{◌≡◌, ◌≤◌, IfOk};
-ghost use Rattle.scr_lane.specs.Messages.{route};
+ghost use Rattle.std.specs.Prelude.{◌≡◌, ◌≤◌, ◌∷◌, [], IfOk, IfSome};
 ghost use Rattle.scr_replica.specs.Replicas.{Begin, Stands};
 
 use super::{A, FOUR, link_of, plan_of};
-use crate::{CoreResult, Gate, Pending, Replica, Turn, run_core, run_phases};
+use crate::{CoreResult, Gate, Pending, Replica, Turn, gather, run_core, run_phases};
 use scr_base::Verdict;
 use scr_ddos::{Ddos, DdosSettings};
 use scr_feed::{Feed, Step};
@@ -45,27 +44,50 @@ struct Two<'a> {
     to_one: ReceiveEnd,
 }
 
+// A pass of this core. None where another was drawn, or none.
+fn claim(logs: &Logs, free: FreePass, core: u32) -> Option<CorePass>
+    requires of_these { free.logs ≡ logs.now }
+    requires stock { 1 ≤ free.stock }
+    ensures logs { IfSome result (λ pass. pass.logs ≡ logs.now) }
+    ensures core { IfSome result (λ pass. pass.core ≡ core) }
+    ensures unpublished { IfSome result (λ pass. pass.published ≡ 0) }
+    ensures unfinished { IfSome result (λ pass. pass.finished ≡ 0) }
+{
+    let pass = logs.claim(free).ok()?;
+    if pass.core() == core {
+        Some(pass)
+    } else {
+        None
+    }
+}
+
+// The two ends of a list. None where it has another length.
+fn both_of(mut ends: Vec<ReceiveEnd>) -> Option<(ReceiveEnd, ReceiveEnd)>
+    ensures { IfSome result (λ both. ends.items ≡ both.0 ∷ both.1 ∷ []) }
+{
+    if ends.len() != 2 {
+        return None;
+    }
+    let last = ends.pop()?;
+    let first = ends.pop()?;
+    Some((first, last))
+}
+
 // Makes them, with logs of so many slots.
 fn two_cores(alloc: Global, plan: &RunPlan, slots: u32) -> Result<Two<'_>, Fail>
     requires some_slots { 1 ≤ slots }
     requires few_slots { slots ≤ 4096 }
-    ensures zero { IfOk result (λ it. Begin it.to_zero it.zero × (it.zero.logs ≡ it.logs)) }
-    ensures one { IfOk result (λ it. Begin it.to_one it.one × (it.one.logs ≡ it.logs)) }
+    ensures zero { IfOk result (λ it. Begin it.to_zero it.zero) }
+    ensures one { IfOk result (λ it. Begin it.to_one it.one) }
+    ensures of_zero { IfOk result (λ it. it.zero.logs ≡ it.logs) }
+    ensures of_one { IfOk result (λ it. it.one.logs ≡ it.logs) }
     ensures main { IfOk result (λ it. it.main.logs ≡ it.logs) }
-    ensures plan { IfOk result (λ it. it.logs.plan ≡ plan.now) }
 {
     let (logs, mut main) = Logs::make(alloc, plan, slots)?;
-    let first = main.split(&logs);
-    let second = main.split(&logs);
-    let (Ok(zero), Ok(one)) = (logs.claim(first), logs.claim(second)) else {
-        return Err("two cores".into());
-    };
-    let (feed, mut ends) = Feed::make(alloc, plan, 16)?;
-    if ends.len() != 2 || zero.core() != 0 || one.core() != 1 {
-        return Err("cores 0 and 1".into());
-    }
-    let to_one = ends.pop().ok_or("an end")?;
-    let to_zero = ends.pop().ok_or("another end")?;
+    let zero = claim(&logs, main.split(&logs), 0).ok_or("core 0")?;
+    let one = claim(&logs, main.split(&logs), 1).ok_or("core 1")?;
+    let (feed, ends) = Feed::make(alloc, plan, 16)?;
+    let (to_zero, to_one) = both_of(ends).ok_or("two lanes")?;
     Ok(Two {
         logs,
         main,
@@ -75,6 +97,25 @@ fn two_cores(alloc: Global, plan: &RunPlan, slots: u32) -> Result<Two<'_>, Fail>
         to_zero,
         to_one,
     })
+}
+
+// A replica of a core that begins.
+fn replica_of(
+    alloc: Global,
+    settings: &DdosSettings,
+    lane: ReceiveEnd,
+    pass: CorePass,
+    logs: &Logs,
+) -> Result<Replica<Ddos>, Fail>
+    requires begin { Begin lane pass }
+    requires of_these { pass.logs ≡ logs.now }
+    ensures stands { IfOk result (Stands (⟦<Ddos as Program>⟧.StandsFor settings.now)) }
+    ensures of_these { IfOk result (λ it. it.pass.logs ≡ logs.now) }
+{
+    match Replica::<Ddos>::make(alloc, settings, lane, pass, logs) {
+        Ok(replica) => Ok(replica),
+        Err(_) => Err("memory".into()),
+    }
 }
 
 // Gives the lanes all their messages, for which there is room.
@@ -103,97 +144,109 @@ fn answers<R: Wait>(
     replica.turn(rt, settings, logs) == wanted
 }
 
-// The verdict at a frame.
-const fn verdict(number: u32, code: u8) -> Turn {
-    Turn::Verdict {
-        number,
-        verdict: Verdict(code),
-    }
-}
-
-// No slot, as a core has finished too little.
-const fn no_room(core: u32, done: u64) -> Turn {
-    Turn::Waiting(Pending::NoRoom { core, done })
-}
-
 const MOVED: Turn = Turn::Moved;
+
+const ENDED: Turn = Turn::Ended;
+
+// The verdicts at the four frames: the first two pass.
+const FIRST: Turn = Turn::Verdict {
+    number: 1,
+    verdict: Verdict(0),
+};
+const SECOND: Turn = Turn::Verdict {
+    number: 2,
+    verdict: Verdict(0),
+};
+const THIRD: Turn = Turn::Verdict {
+    number: 3,
+    verdict: Verdict(1),
+};
+const FOURTH: Turn = Turn::Verdict {
+    number: 4,
+    verdict: Verdict(1),
+};
+
+// No slot, as the other core has finished no packet, the first or the second.
+const BEHIND_NONE: Turn = Turn::Waiting(Pending::NoRoom { core: 1, done: 0 });
+const BEHIND_FIRST: Turn = Turn::Waiting(Pending::NoRoom { core: 0, done: 1 });
+const BEHIND_SECOND: Turn = Turn::Waiting(Pending::NoRoom { core: 1, done: 2 });
+
+// The turns of cores 0 and 1 whose logs have one slot, so that each waits until the other has finished what stands there.
+const TURNS: [(u32, Turn); 28] = [
+    (0, MOVED),
+    (0, MOVED),
+    (0, FIRST),
+    (0, MOVED),
+    (0, BEHIND_NONE),
+    (1, MOVED),
+    (1, MOVED),
+    (1, MOVED),
+    (1, MOVED),
+    (1, SECOND),
+    (1, MOVED),
+    (1, BEHIND_FIRST),
+    (0, MOVED),
+    (0, MOVED),
+    (0, MOVED),
+    (0, THIRD),
+    (0, MOVED),
+    (0, BEHIND_SECOND),
+    (1, MOVED),
+    (1, MOVED),
+    (1, MOVED),
+    (1, FOURTH),
+    (1, MOVED),
+    (1, ENDED),
+    (1, ENDED),
+    (0, MOVED),
+    (0, MOVED),
+    (0, ENDED),
+];
+
+// How many of these turns answer so, until one answers otherwise.
+fn right_turns<R: Wait>(
+    rt: &R,
+    settings: &DdosSettings,
+    zero: &mut Replica<Ddos>,
+    one: &mut Replica<Ddos>,
+    logs: &Logs,
+    turns: &[(u32, Turn)],
+) -> usize
+    requires zero { Stands (⟦<Ddos as Program>⟧.StandsFor settings.now) zero.old }
+    requires of_zero { zero.old.pass.logs ≡ logs.now }
+    requires one { Stands (⟦<Ddos as Program>⟧.StandsFor settings.now) one.old }
+    requires of_one { one.old.pass.logs ≡ logs.now }
+    ensures zero { Stands (⟦<Ddos as Program>⟧.StandsFor settings.now) zero.new }
+    ensures of_zero { zero.new.pass.logs ≡ logs.now }
+    ensures one { Stands (⟦<Ddos as Program>⟧.StandsFor settings.now) one.new }
+    ensures of_one { one.new.pass.logs ≡ logs.now }
+{
+    for (i, (core, wanted)) in turns.iter().enumerate() {
+        let right = if *core == 0 {
+            answers(rt, settings, zero, logs, *wanted)
+        } else {
+            answers(rt, settings, one, logs, *wanted)
+        };
+        if !right {
+            return i;
+        }
+    }
+    turns.len()
+}
 
 #[test]
 fn two_cores_with_one_slot(rt: HostRuntime) -> Result<(), Fail> {
     let plan = four(rt.alloc())?;
     let settings = settings_of(&rt);
-    let Two {
-        logs,
-        mut feed,
-        zero,
-        one,
-        to_zero,
-        to_one,
-        ..
-    } = two_cores(rt.alloc(), &plan, 1)?;
-    let Ok(mut zero) = Replica::<Ddos>::make(rt.alloc(), &settings, to_zero, zero, &logs) else {
-        return Err("memory".into());
-    };
-    let Ok(mut one) = Replica::<Ddos>::make(rt.alloc(), &settings, to_one, one, &logs) else {
-        return Err("memory".into());
-    };
-    assert!(rt;
-        answers(
-            &rt,
-            &settings,
-            &mut zero,
-            &logs,
-            Turn::Waiting(Pending::Empty)
-        )
-    );
-    assert!(rt; feed_all(&rt, &mut feed)?);
-    for wanted in [MOVED, MOVED, verdict(1, 0), MOVED, no_room(1, 0)] {
-        assert!(rt;
-            answers(&rt, &settings, &mut zero, &logs, wanted),
-            "0: {wanted:?}"
-        );
-    }
-    for wanted in [
-        MOVED,
-        MOVED,
-        MOVED,
-        MOVED,
-        verdict(2, 0),
-        MOVED,
-        no_room(0, 1),
-    ] {
-        assert!(rt;
-            answers(&rt, &settings, &mut one, &logs, wanted),
-            "1: {wanted:?}"
-        );
-    }
-    for wanted in [MOVED, MOVED, MOVED, verdict(3, 1), MOVED, no_room(1, 2)] {
-        assert!(rt;
-            answers(&rt, &settings, &mut zero, &logs, wanted),
-            "0: {wanted:?}"
-        );
-    }
-    let rest = [
-        MOVED,
-        MOVED,
-        MOVED,
-        verdict(4, 1),
-        MOVED,
-        Turn::Ended,
-        Turn::Ended,
-    ];
-    for wanted in rest {
-        assert!(rt;
-            answers(&rt, &settings, &mut one, &logs, wanted),
-            "1: {wanted:?}"
-        );
-    }
-    for wanted in [MOVED, MOVED, Turn::Ended] {
-        assert!(rt;
-            answers(&rt, &settings, &mut zero, &logs, wanted),
-            "0: {wanted:?}"
-        );
-    }
+    let mut two = two_cores(rt.alloc(), &plan, 1)?;
+    let mut zero = replica_of(rt.alloc(), &settings, two.to_zero, two.zero, &two.logs)?;
+    let mut one = replica_of(rt.alloc(), &settings, two.to_one, two.one, &two.logs)?;
+    let empty = [(0, Turn::Waiting(Pending::Empty))];
+    let right = right_turns(&rt, &settings, &mut zero, &mut one, &two.logs, &empty);
+    assert_eq!(rt; right, 1);
+    assert!(rt; feed_all(&rt, &mut two.feed)?);
+    let right = right_turns(&rt, &settings, &mut zero, &mut one, &two.logs, &TURNS);
+    assert_eq!(rt; right, TURNS.len());
     let (pass, counts, flows) = zero.take_apart(&settings);
     assert_eq!(rt; (pass.core(), pass.published(), flows), (0, 4, 1));
     assert_eq!(rt; super::line_of(&counts), (2, 2, 2, 0));
@@ -204,29 +257,19 @@ fn two_cores_with_one_slot(rt: HostRuntime) -> Result<(), Fail> {
 fn a_core_that_waits_is_halted(rt: HostRuntime) -> Result<(), Fail> {
     let plan = four(rt.alloc())?;
     let settings = settings_of(&rt);
-    let Two {
-        logs,
-        mut main,
-        mut feed,
-        zero,
-        to_zero,
-        ..
-    } = two_cores(rt.alloc(), &plan, 4)?;
-    let Ok(mut zero) = Replica::<Ddos>::make(rt.alloc(), &settings, to_zero, zero, &logs) else {
-        return Err("memory".into());
-    };
-    assert!(rt; feed_all(&rt, &mut feed)?);
+    let mut two = two_cores(rt.alloc(), &plan, 4)?;
+    let mut zero = replica_of(rt.alloc(), &settings, two.to_zero, two.zero, &two.logs)?;
+    let mut one = replica_of(rt.alloc(), &settings, two.to_one, two.one, &two.logs)?;
+    assert!(rt; feed_all(&rt, &mut two.feed)?);
     let not_yet = Turn::Waiting(Pending::NotYet { core: 1, tag: 0 });
-    for wanted in [MOVED, MOVED, verdict(1, 0), MOVED, MOVED, not_yet, not_yet] {
-        assert!(rt;
-            answers(&rt, &settings, &mut zero, &logs, wanted),
-            "{wanted:?}"
-        );
-    }
-    assert!(rt; !zero.halted(&logs));
-    logs.halt_by_main(&mut main);
-    assert!(rt; answers(&rt, &settings, &mut zero, &logs, Turn::Halted));
-    assert!(rt; answers(&rt, &settings, &mut zero, &logs, Turn::Halted));
+    let turns = [MOVED, MOVED, FIRST, MOVED, MOVED, not_yet, not_yet].map(|turn| (0, turn));
+    let right = right_turns(&rt, &settings, &mut zero, &mut one, &two.logs, &turns);
+    assert_eq!(rt; right, turns.len());
+    assert!(rt; !zero.halted(&two.logs));
+    two.logs.halt_by_main(&mut two.main);
+    let halted = [(0, Turn::Halted), (0, Turn::Halted)];
+    let right = right_turns(&rt, &settings, &mut zero, &mut one, &two.logs, &halted);
+    assert_eq!(rt; right, 2);
     Ok(())
 }
 
@@ -271,8 +314,10 @@ fn run_both<R: Threads + Wait + Sync>(
     two: Two<'_>,
     gate: &Counting,
 ) -> Option<(CoreResult, CoreResult)>
-    requires zero { Begin two.to_zero two.zero × (two.zero.logs ≡ two.logs) }
-    requires one { Begin two.to_one two.one × (two.one.logs ≡ two.logs) }
+    requires zero { Begin two.to_zero two.zero }
+    requires of_zero { two.zero.logs ≡ two.logs }
+    requires one { Begin two.to_one two.one }
+    requires of_one { two.one.logs ≡ two.logs }
 {
     let Two {
         logs,
@@ -287,8 +332,10 @@ fn run_both<R: Threads + Wait + Sync>(
         thread::scope_env(),
         rt,
         |scope|
-            requires zero { Begin to_zero zero × (zero.logs ≡ logs.now) }
-            requires one { Begin to_one one × (one.logs ≡ logs.now) }
+            requires zero { Begin to_zero zero }
+            requires of_zero { zero.logs ≡ logs.now }
+            requires one { Begin to_one one }
+            requires of_one { one.logs ≡ logs.now }
         {
             let other = scope
                 .spawn(
@@ -304,36 +351,42 @@ fn run_both<R: Threads + Wait + Sync>(
     )
 }
 
+// Both cores in threads, with logs of so many slots, beside the run by phases.
+fn assert_threads<R: Threads + Wait + Abort + Sync>(
+    rt: &R,
+    alloc: Global,
+    settings: &DdosSettings,
+    plan: &RunPlan,
+    slots: u32,
+) -> Result<(), Fail>
+    requires some_slots { 1 ≤ slots }
+    requires few_slots { slots ≤ 4096 }
+{
+    let phases = run_phases::<Ddos>(alloc, settings, plan)?;
+    let mut two = two_cores(alloc, plan, slots)?;
+    assert!(rt; feed_all(rt, &mut two.feed)?);
+    let gate = Counting {
+        entered: AtomicU32::new(0),
+        left: AtomicU32::new(0),
+    };
+    let (zero, one) = run_both(rt, alloc, settings, two, &gate).ok_or("two threads")?;
+    assert_eq!(rt; gate.entered.load(Ordering::SeqCst), 2, "both go in");
+    assert_eq!(rt; gate.left.load(Ordering::SeqCst), 8, "both go out, with four numbers each");
+    if plan.cores() != 2 {
+        return Err("two cores".into());
+    }
+    assert_eq!(rt; one.flows, phases.flows);
+    let gathered = gather(alloc, plan, &[zero, one])?;
+    assert_eq!(rt; gathered.verdicts.as_slice(), phases.verdicts.as_slice());
+    assert_eq!(rt; gathered.cores.as_slice(), phases.cores.as_slice());
+    assert_eq!(rt; gathered.flows, phases.flows);
+    Ok(())
+}
+
 #[test]
 fn two_cores_in_threads(rt: HostRuntime) -> Result<(), Fail> {
     let plan = four(rt.alloc())?;
     let settings = settings_of(&rt);
-    let phases = run_phases::<Ddos>(rt.alloc(), &settings, &plan)?;
-    for slots in [1, 4] {
-        let mut two = two_cores(rt.alloc(), &plan, slots)?;
-        assert!(rt; feed_all(&rt, &mut two.feed)?);
-        let gate = Counting {
-            entered: AtomicU32::new(0),
-            left: AtomicU32::new(0),
-        };
-        let both = run_both(&rt, rt.alloc(), &settings, two, &gate);
-        let (zero, one) = both.ok_or("two threads")?;
-        let seen = (
-            gate.entered.load(Ordering::SeqCst),
-            gate.left.load(Ordering::SeqCst),
-        );
-        assert_eq!(rt; seen, (2, 8), "both go in and out, with four numbers each");
-        assert_eq!(rt; (zero.core, zero.flows), (0, phases.flows));
-        assert_eq!(rt; (one.core, one.flows), (1, phases.flows));
-        for (i, given) in phases.verdicts.iter().enumerate() {
-            let own = if i % 2 == 0 { &zero } else { &one };
-            assert_eq!(rt; own.verdicts.get(i / 2), Some(given), "at {i}");
-        }
-        assert_eq!(rt; zero.verdicts.len() + one.verdicts.len(), 4);
-        assert_eq!(rt;
-            [zero.counts, one.counts].as_slice(),
-            phases.cores.as_slice()
-        );
-    }
-    Ok(())
+    assert_threads(&rt, rt.alloc(), &settings, &plan, 1)?;
+    assert_threads(&rt, rt.alloc(), &settings, &plan, 4)
 }
