@@ -32,8 +32,8 @@
 //! answers that it moved, never sets the halt word, and stays ended, halted or out of memory. [`run_core`] answers what the
 //! one-core answer has for its core; where it stops it hands its pass back with the look or the halt that says why.
 //!
-//! **What is only tested.** That two replicas by turns, and two cores in threads, come to their end. That there is an answer where there is memory, and the verdicts, counts and entries of runs that
-//! were worked out by hand.
+//! **What is only tested.** That two replicas by turns, and two cores in threads, come to their end. That there is an answer
+//! where there is memory, and the verdicts, counts and entries of runs that were worked out by hand.
 //!
 //! **Limits.** Those of a plan: at most 1,000,000 packets, 16 cores and a history of 64. Each core holds 64 bytes for each
 //! packet. A run's time grows with frames times cores; the fates of all frames are told once, before the first. Where no

@@ -84,10 +84,16 @@ fn two_cores(alloc: Global, plan: &RunPlan, slots: u32) -> Result<Two<'_>, Fail>
     ensures main { IfOk result (λ it. it.main.logs ≡ it.logs) }
 {
     let (logs, mut main) = Logs::make(alloc, plan, slots)?;
-    let zero = claim(&logs, main.split(&logs), 0).ok_or("core 0")?;
-    let one = claim(&logs, main.split(&logs), 1).ok_or("core 1")?;
+    let Some(zero) = claim(&logs, main.split(&logs), 0) else {
+        return Err("core 0".into());
+    };
+    let Some(one) = claim(&logs, main.split(&logs), 1) else {
+        return Err("core 1".into());
+    };
     let (feed, ends) = Feed::make(alloc, plan, 16)?;
-    let (to_zero, to_one) = both_of(ends).ok_or("two lanes")?;
+    let Some((to_zero, to_one)) = both_of(ends) else {
+        return Err("two lanes".into());
+    };
     Ok(Two {
         logs,
         main,
