@@ -4,7 +4,9 @@ use Rattle.scr_lane.specs.Messages.{Route, SpellsMessage}
 use Rattle.scr_lane.specs.Ends.{End, moved}
 use Rattle.scr_replica.specs.Replicas.{Replica}
 use Rattle.scr_replica.specs.Stages.{replica_of, Keeps}
-use Rattle.scr_replica.proofs.WholeTurns.{going, looked-lane, through-all, keeps-ended, keeps-taken}
+use Rattle.scr_replica.proofs.Looking.{looked-lane}
+use Rattle.scr_replica.proofs.AtHand.{going}
+use Rattle.scr_replica.proofs.Keeping.{through-all, keeps-ended, keeps-taken}
 use Rattle.scr_replica.proofs.replica.Replica.take.Goals as goal
 
 pub invariant_of-self : goal.invariant_of-self
