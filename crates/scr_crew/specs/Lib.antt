@@ -1,4 +1,5 @@
 pub mod Cores
 pub mod Workers
 pub mod Answers
+pub mod Verdicts
 pub mod Threads
