@@ -12,7 +12,8 @@ use Rattle.scr_plan.specs.Plan.{Plan, frame_count}
 use Rattle.scr_plan.specs.Counts.{plan_counts, counts_up_to}
 use Rattle.scr_plan.proofs.FromOne.{range-append}
 use Rattle.scr_log.specs.declared.view.Noted.{Noted}
-use Rattle.scr_log.specs.Passes.{LogsOf, OfCore}
+use Rattle.scr_log.specs.declared.view.Noted.TheVariants.{Halt}
+use Rattle.scr_log.specs.Passes.{LogsOf, OfCore, looked}
 use Rattle.scr_log.specs.Answers.{EndsWith}
 use Rattle.scr_wire.proofs.Decides.{decided-le}
 use Rattle.scr_replica.specs.declared.standing.Standing.TheVariants as standing
@@ -60,6 +61,29 @@ ends-then a b c look one other =
       other.1
       ∙ ap (λ (l : List Noted). (l ++ other.0) ++ look ∷ []) one.1
       ∙ ap (λ (l : List Noted). l ++ look ∷ []) (append_assoc a.looks one.0 other.0))
+
+-- a replica that has watched the halt word a while
+module _ {State : Type 0} where
+  pub watched_none : (it : Replica State) → HasWatched it it
+  watched_none it = record { same = refl; looks = ([], sym (append-nil it.pass.looks)) }
+
+  module _ (old mid new : Replica State) (value : ℕ) (has : HasWatched old mid) (is : new ≡ record mid { pass = looked mid.pass (Halt value) }) where
+    pub watched_more : HasWatched old new
+    watched_more = record {
+      same =
+          is
+          ∙ ap (λ (it : Replica State). record it { pass = record it.pass { looks = mid.pass.looks ++ Halt value ∷ [] } }) has.same
+          ∙ ap (λ (looks : List Noted). record old { pass = record old.pass { looks = looks } }) (sym (ap (λ (it : Replica State). it.pass.looks) is));
+      looks = more-then old.pass mid.pass new.pass has.looks (Halt value ∷ [], ap (λ (it : Replica State). it.pass.looks) is);
+    }
+
+    pub watched_halt : value ≡ 1 → EndsWith old.pass new.pass (Halt 1)
+    watched_halt one = (
+      has.looks.0,
+      ap (λ (it : Replica State). it.pass.looks) is
+          ∙ ap (λ (looks : List Noted). looks ++ Halt value ∷ []) has.looks.1
+          ∙ ap (λ (v : ℕ). (old.pass.looks ++ has.looks.0) ++ Halt v ∷ []) one,
+    )
 
 module _ {State : Type 0} (StandsFor : State → List Row → Type 0) where
   -- a turn more
