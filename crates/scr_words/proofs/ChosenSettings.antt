@@ -7,7 +7,7 @@ use Rattle.std.proofs.Math.Bridge.{le_prop}
 use Rattle.std.proofs.Math.Path.{PathP, to_path_p}
 use mathlib.Core.Bool.{Bool-set}
 use Rattle.scr_base.specs.Numbers.{is_number, number_of}
-use Rattle.scr_plan.proofs.OneReading.{Spells-same}
+use Rattle.scr_plan.proofs.OneReading.{Spells-same, SpellsDelays-same}
 use Rattle.scr_plan.specs.Link.{Link}
 use Rattle.scr_plan.specs.Spelling.{read_at, Spells}
 use Rattle.scr_plan.specs.DelaySpelling.{delay_read_at, SpellsDelays}
@@ -43,7 +43,7 @@ use Rattle.scr_words.specs.WordTests.{HaveFaultlessValues}
 use Rattle.scr_words.specs.GivenSettings.{value_for, number_for, history_for, HasPorts, HasNumbers, name_of, HasProgram, HasLink, HasShape, AreChosen}
 use Rattle.scr_words.proofs.GivenValues.{value_for-passes}
 use Rattle.scr_words.proofs.FaultlessWords.{lacks-program, lacks-table, lacks-first, lacks-second}
-use Rattle.scr_words.proofs.TextFaults.{list_fault-empty, ranges-some, delays-some, delays-same, table-some}
+use Rattle.scr_words.proofs.TextFaults.{list_fault-empty, ranges-some, delays-some, table-some}
 use Rattle.scr_words.proofs.FaultlessValues.{number-inside, history-short}
 
 -- ports without a fault
@@ -375,7 +375,7 @@ HasLink-same : (operands : List (List ℕ)) (a b : Link) → HasLink operands a 
 HasLink-same operands a b of_a of_b =
     let drops = Spells-same (value_for operand.Drop operands) a.drops b.drops of_a.drops of_b.drops in
     let repeats = Spells-same (value_for operand.Repeat operands) a.repeats b.repeats of_a.repeats of_b.repeats in
-    let delays = delays-same (value_for operand.Delay operands) a.delays b.delays of_a.delays of_b.delays in
+    let delays = SpellsDelays-same (value_for operand.Delay operands) a.delays b.delays of_a.delays of_b.delays in
     let missing = of_a.missing ∙ sym of_b.missing in
     λ i. record { drops = drops i; repeats = repeats i; delays = delays i; missing = missing i }
 

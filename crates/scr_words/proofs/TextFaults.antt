@@ -86,15 +86,6 @@ module _ {A C : Type 0} where
       by (Ok piece) is (inr rest) =
           inr (record { faulty = suc rest.faulty; refusal = rest.refusal; within = omega (arith, rest.within); before = later piece is rest; why = rest.why })
 
-  -- what pieces read as is one list
-  same-read : (read : ℕ → Result A C) (a b : List A) → length a ≡ length b → ((i : ℕ) (d : A) → i < length a → read i ≡ Ok (get_or a i d))
-      → ((i : ℕ) (d : A) → i < length b → read i ≡ Ok (get_or b i d)) → a ≡ b
-  same-read read a b long reads_a reads_b =
-      same_lists a b long (λ i d within. Ok-same (get_or a i d) (get_or b i d) (read i) (reads_a i d within) (reads_b i d (omega (arith, within, long))))
-    where
-      Ok-same : (a b : A) (x : Result A C) → x ≡ Ok a → x ≡ Ok b → a ≡ b
-      Ok-same a b x is_a is_b = cc
-
 module _ {A C : Type 0} (read : List ℕ → ℕ → Result A C) (told : C → ℕ → WordCause) where
   pieces-none : (text : List ℕ) → ((i : ℕ) → i < length (pieces_of text) → IsOk (read text i)) → pieces_fault read told text ≡ None
   pieces-none text reads =
@@ -166,11 +157,6 @@ module _ (told : DelayCause → ℕ → WordCause) where
   delays-some (byte ∷ text) none =
       let all = pieces-read delay_read_at told (byte ∷ text) none in
       (all.items, record { count = all.many; each = λ i d below. all.each i d (omega (arith, below, all.many)) })
-
-pub delays-same : (text : List ℕ) (a b : List FrameDelay) → SpellsDelays text a → SpellsDelays text b → a ≡ b
-delays-same [] a b spells_a spells_b = spells_a ∙ sym spells_b
-delays-same (byte ∷ text) a b spells_a spells_b =
-    same-read (delay_read_at (byte ∷ text)) a b (spells_a.count ∙ sym spells_b.count) spells_a.each spells_b.each
 
 -- a rule that is read is what its parts say
 unless : (b : Bool) (cause : TableCause) (rest : Result Rule TableCause) (rule : Rule) → cond b (Err cause) rest ≡ Ok rule → rest ≡ Ok rule
