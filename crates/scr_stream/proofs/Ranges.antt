@@ -3,6 +3,7 @@ use Rattle.std.proofs.Common.{◌≡◌, ℕ, zero, suc, ◌+◌, ◌-◌, ◌<�
 use Rattle.std.specs.Prelude.{map, filter}
 use Rattle.std.specs.List.{list_any, range_with_len}
 use Rattle.std.proofs.lemmas.Bool.{cases_lt}
+use Rattle.std.proofs.lemmas.List.{map-append}
 use Rattle.std.proofs.lemmas.List.Folds.{list_any-append}
 use Rattle.scr_plan.proofs.FromOne.{range-suc}
 use Rattle.std.proofs.lemmas.Bool.Decides.{nat_tests}
@@ -93,3 +94,22 @@ any-found f a (suc n) p from to passes =
           let same : a ≡ p = omega arith in
           ap (λ (b : Bool). b || list_any f (range_with_len (a + 1) n)) (ap f same ∙ passes)
     ]
+
+pub range-more : (a p : ℕ) → a ≤ p → range_with_len a (p + 1 - a) ≡ range_with_len a (p - a) ++ p ∷ []
+range-more a p from =
+    let size : p + 1 - a ≡ suc (p - a) = omega arith in
+    let last : a + (p - a) ≡ p = omega arith in
+    ap (range_with_len a) size ∙ range-suc a (p - a) ∙ ap (λ (k : ℕ). range_with_len a (p - a) ++ k ∷ []) last
+
+pub map-more : {X : Type 0} (f : ℕ → X) (a p : ℕ) → a ≤ p → map f (range_with_len a (p + 1 - a)) ≡ map f (range_with_len a (p - a)) ++ f p ∷ []
+map-more f a p from =
+    ap (map f) (range-more a p from) ∙ map-append f (range_with_len a (p - a)) (p ∷ [])
+
+-- none of them passes, nor does the next
+pub any-step : (f : ℕ → Bool) (a p : ℕ) → a ≤ p → list_any f (range_with_len a (p - a)) ≡ false → f p ≡ false
+    → list_any f (range_with_len a (p + 1 - a)) ≡ false
+any-step f a p from none here =
+    let size : p + 1 - a ≡ (p - a) + 1 = omega arith in
+    let last : a + (p - a) ≡ p = omega arith in
+    ap (λ (k : ℕ). list_any f (range_with_len a k)) size ∙ any-more f a (p - a)
+    ∙ ap (λ (b : Bool). b || f (a + (p - a))) none ∙ ap f last ∙ here

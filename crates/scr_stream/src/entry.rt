@@ -108,6 +108,7 @@ impl Place {
 }
 
 // The fields in a header.
+#[tactic(auto, unfolding(scr_wire::specs::Reading::number_in, scr_wire::specs::Reading::count_in))]
 fn fields_in(header: &[u8]) -> Fields
     requires { length header.now ≡ 10 }
     ensures kind { result.kind ≡ kind_in header.now }
