@@ -5,3 +5,5 @@ mod Ranges
 mod FrameAdded
 mod EntryTests
 mod Differing
+mod FramesInFront
+mod FrameTaken

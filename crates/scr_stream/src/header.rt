@@ -1,4 +1,5 @@
-ghost use Rattle.std.specs.Prelude.{◌≡◌, ◌≤◌, length, Ok, IfOk, IfErr, IfSome, Some, drop};
+ghost use Rattle.std.specs.Prelude.{◌≡◌, ◌≤◌, IfOk};
+ghost use Rattle.scr_plan.specs.Limits.{most_cores, longest_history};
 ghost use Rattle.scr_stream.specs.Tests.{shape_of};
 
 use crate::error::StreamError;
@@ -16,7 +17,8 @@ pub struct Shape {
 // The shape in front of a stream of this program, or the first test that fails.
 #[tactic(auto, unfolding(crate::specs::Tests::shape_of))]
 pub(crate) fn shape_of(program: u8, bytes: &[u8]) -> Result<Shape, StreamError>
-    ensures { result ≡ shape_of program bytes.now }
+    ensures answer { result ≡ shape_of program bytes.now }
+    ensures ranges { IfOk result (λ shape. (1 ≤ shape.cores) × (shape.cores ≤ most_cores) × (shape.history ≤ longest_history)) }
 {
     if bytes.len() < STREAM_HEADER {
         return Err(StreamError::ShortHeader);

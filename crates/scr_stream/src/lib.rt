@@ -21,6 +21,7 @@
 
 mod entry;
 mod error;
+mod filling;
 mod format;
 mod header;
 mod put;

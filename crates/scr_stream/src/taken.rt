@@ -1,13 +1,18 @@
-ghost use Rattle.std.specs.Prelude.{◌≡◌, ◌≤◌, ◌<◌, ◌+◌, ◌-◌, ◌++◌, ℕ, length, map, unwrap_or, OnOk, slice_get};
+ghost use Rattle.std.specs.Prelude.{◌≡◌, ◌≢◌, ◌≤◌, ◌<◌, ◌+◌, ◌*◌, ◌-◌, ◌++◌, ◌∷◌, [], ℕ, List, true, false, length, map, unwrap_or, None, Some, IfOk, IfErr, IfSome, OnOk, slice_get};
 ghost use Rattle.std.specs.List.{list_any, range_with_len};
-ghost use Rattle.scr_plan.specs.Limits.{most_packets};
+ghost use Rattle.std.specs.Io.KnownBytes.{IsAtEnd, prepend_known};
+ghost use Rattle.scr_plan.specs.Limits.{most_packets, longest_history};
+ghost use Rattle.scr_wire.specs.Kinds.{most_rows};
+ghost use Rattle.scr_wire.specs.Reading.{count_in};
 ghost use Rattle.scr_wire.specs.Spelling.{number_of, rows_of};
-ghost use Rattle.scr_stream.specs.Frames.{frame_of, carried_row};
-ghost use Rattle.scr_stream.specs.Tests.{same_row, clash};
-ghost use Rattle.scr_stream.specs.Reading.{no_row};
+ghost use Rattle.scr_stream.specs.Frames.{StreamFrame, frame_of, carried_row, last_number};
+ghost use Rattle.scr_stream.specs.Tests.{rows_due, header_fault, entry_fault, differs, same_row, clash};
+ghost use Rattle.scr_stream.specs.Reading.{Follows, no_row};
+ghost use Rattle.scr_stream.specs.Taken.{StandsFor, IsFound, CountsReadFault, IsFrameHeader, TakesFrame, TakesEntry};
 
-use crate::entry::{Fields, LIMIT, Place};
+use crate::entry::Place;
 use crate::error::StreamError;
+use crate::filling::fill_behind;
 use crate::format::{HEADER, ROW};
 use scr_base::{OutOfMemory, Row, Source};
 use scr_pcap::fill;
@@ -76,7 +81,12 @@ fn row_or_none(frame: &WireView<'_>, p: u32) -> Row
 }
 
 impl Taken {
-    pub(crate) fn new(alloc: Global) -> Self {
+    // Nothing of no frames.
+    pub(crate) fn new(alloc: Global) -> Self
+        ensures rows { result.rows.items ≡ [] }
+        ensures missing { result.missing.items ≡ [] }
+        ensures frames { result.frames ≡ 0 }
+    {
         Taken {
             rows: Vec::new(alloc),
             missing: Vec::new(alloc),
@@ -98,17 +108,30 @@ impl Taken {
         history: u32,
         source: &mut S,
         buffer: &mut [u8],
-    ) -> Result<bool, StreamError> {
+    ) -> Result<bool, StreamError>
+        requires short_history { history ≤ longest_history }
+        requires room { 10 + 56 * most_rows ≤ length buffer.old }
+        requires few { length self.old.rows.items ≤ most_packets }
+        requires fewer { self.old.frames ≤ length self.old.rows.items }
+        ensures taken { IfOk result (λ more. (frames : List StreamFrame)
+            → StandsFor history frames self.old.rows.items self.old.missing.items self.old.frames
+            → TakesEntry more history frames (S.left source.old) (S.left source.new) self.new.rows.items self.new.missing.items self.new.frames) }
+        ensures refused { IfSome (S.left source.old) (λ bytes. IfErr result (λ error. IsFound error → (frames : List StreamFrame)
+            → StandsFor history frames self.old.rows.items self.old.missing.items self.old.frames
+            → entry_fault history frames bytes ≡ Some error)) }
+        ensures counts { CountsReadFault S.faults source.old source.new result }
+    {
         let place = Place {
             history,
             entry: self.frames + 1,
             last: self.last(),
         };
-        let count = fill(source, &mut buffer[..HEADER])?;
-        let fields = place.fields_of(&buffer[..count])?;
+        let mut header = [0; HEADER];
+        let count = fill(source, &mut header)?;
+        let fields = place.fields_of(&header[..count])?;
         match fields.kind {
             MessageKind::Frame => {
-                self.take_frame(fields, source, buffer)?;
+                self.take_frame(&header, fields.count, source, buffer)?;
                 Ok(true)
             }
             _ => {
@@ -119,27 +142,58 @@ impl Taken {
         }
     }
 
-    // Takes the rows of a frame, whose header stands in the buffer.
+    // Takes the rows of a frame, whose header was taken before.
     fn take_frame<S: Source>(
         &mut self,
-        fields: Fields,
+        header: &[u8],
+        count: u16,
         source: &mut S,
         buffer: &mut [u8],
-    ) -> Result<(), StreamError> {
+    ) -> Result<(), StreamError>
+        requires header { IsFrameHeader (length self.old.rows.items) header.now }
+        requires count { count ≡ count_in header.now }
+        requires room { 10 + 56 * most_rows ≤ length buffer.old }
+        requires fewer { self.old.frames ≤ length self.old.rows.items }
+        ensures taken { OnOk result ((history : ℕ) (frames : List StreamFrame)
+            → StandsFor history frames self.old.rows.items self.old.missing.items self.old.frames
+            → header_fault history (length frames + 1) (last_number frames) header.now ≡ None
+            → TakesFrame history frames (prepend_known header.now (S.left source.old)) (S.left source.new) self.new.rows.items self.new.missing.items self.new.frames) }
+        ensures refused { IfSome (S.left source.old) (λ behind. IfErr result (λ error. IsFound error → (history : ℕ) (frames : List StreamFrame)
+            → StandsFor history frames self.old.rows.items self.old.missing.items self.old.frames
+            → header_fault history (length frames + 1) (last_number frames) header.now ≡ None
+            → entry_fault history frames (header.now ++ behind) ≡ Some error)) }
+        ensures counts { CountsReadFault S.faults source.old source.new result }
+    {
         let entry = self.frames + 1;
-        let size = ROW * usize::from(fields.count);
-        let count = fill(source, &mut buffer[HEADER..HEADER + size])?;
-        if count < size {
+        let size = HEADER + ROW * usize::from(count);
+        let filled = fill_behind(header, source, &mut buffer[..size])?;
+        if filled < size {
             return Err(StreamError::Cut { entry });
         }
-        match decode(&buffer[..HEADER + size]) {
+        match decode(&buffer[..size]) {
             Ok(frame) => self.add(&frame),
             Err(cause) => Err(StreamError::Message { entry, cause }),
         }
     }
 
     // Adds a frame, whose rows must not differ from those of earlier frames.
-    fn add(&mut self, frame: &WireView<'_>) -> Result<(), StreamError> {
+    fn add(&mut self, frame: &WireView<'_>) -> Result<(), StreamError>
+        requires later { length self.old.rows.items < number_of frame.now }
+        requires few { number_of frame.now ≤ most_packets }
+        requires rows { length (rows_of frame.now) ≤ number_of frame.now }
+        requires fewer { self.old.frames ≤ length self.old.rows.items }
+        ensures added { OnOk result ((history : ℕ) (frames : List StreamFrame)
+            → StandsFor history frames self.old.rows.items self.old.missing.items self.old.frames
+            → length (rows_of frame.now) ≡ rows_due history (number_of frame.now)
+            → (differs frames (frame_of frame.now) ≡ false)
+            × ((Follows history frames (frame_of frame.now))
+            → StandsFor history (frames ++ frame_of frame.now ∷ []) self.new.rows.items self.new.missing.items self.new.frames)) }
+        ensures refused { IfErr result (λ error. IsFound error → (error ≡ StreamError.Differs (self.old.frames + 1))
+            × ((history : ℕ) (frames : List StreamFrame)
+            → StandsFor history frames self.old.rows.items self.old.missing.items self.old.frames
+            → length (rows_of frame.now) ≡ rows_due history (number_of frame.now) → differs frames (frame_of frame.now) ≡ true)) }
+        ensures no_fault { IfErr result (λ error. error ≢ StreamError.ReadFault) }
+    {
         if self.differs(frame) {
             return Err(StreamError::Differs {
                 entry: self.frames + 1,
@@ -220,7 +274,11 @@ impl Taken {
 }
 
 // What stands behind the end: nothing, or a byte, which is refused.
-fn take_end<S: Source>(source: &mut S) -> Result<(), StreamError> {
+fn take_end<S: Source>(source: &mut S) -> Result<(), StreamError>
+    ensures end { OnOk result (IsAtEnd (S.left source.old) × IsAtEnd (S.left source.new)) }
+    ensures followed { IfSome (S.left source.old) (λ bytes. IfErr result (λ error. IsFound error → (error ≡ StreamError.Trailing) × (0 < length bytes))) }
+    ensures counts { CountsReadFault S.faults source.old source.new result }
+{
     let mut byte = [0; 1];
     if fill(source, &mut byte)? == 0 {
         Ok(())
