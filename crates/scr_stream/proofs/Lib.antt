@@ -7,3 +7,5 @@ mod EntryTests
 mod Differing
 mod FramesInFront
 mod FrameTaken
+mod Keeping
+mod HeaderRead
