@@ -1,8 +1,8 @@
 -- What is kept of frames, told by the number of rows that are kept.
-use Rattle.std.proofs.Common.{◌≡◌, ℕ, zero, suc, ◌+◌, ◌-◌, ◌<◌, ◌≤◌, Bool, List, [], ◌∷◌, ◌++◌, length, refl, ap, ◌∙◌, arith}
+use Rattle.std.proofs.Common.{◌≡◌, ℕ, ◌+◌, ◌-◌, ◌<◌, ◌≤◌, Bool, List, [], ◌∷◌, ◌++◌, length, refl, ap, ◌∙◌, arith}
 use Rattle.std.specs.Prelude.{map, unwrap_or}
 use Rattle.std.specs.List.{list_any, range_with_len, slice_get}
-use Rattle.std.proofs.lemmas.List.{length-map}
+use Rattle.std.proofs.lemmas.List.FromFn.{length-map-range_with_len}
 use Rattle.scr_base.specs.declared.row.Row.{Row}
 use Rattle.scr_stream.specs.Frames.{StreamFrame, carried_row, row_in, last_number}
 use Rattle.scr_stream.specs.Tests.{rows_due, clash, differs}
@@ -11,17 +11,12 @@ use Rattle.scr_stream.specs.Taken.{StandsFor}
 use Rattle.scr_stream.proofs.Differing.{differs-by_kept}
 use Rattle.scr_stream.proofs.FrameAdded.{frame-added, numbers-added}
 
-range-length : (a n : ℕ) → length (range_with_len a n) ≡ n
-range-length a zero = refl
-range-length a (suc n) = ap suc (range-length (a + 1) n)
-
 module _ (history : ℕ) (frames : List StreamFrame) (rows : List Row) (missing : List ℕ) (count : ℕ) (stands : StandsFor history frames rows missing count) where
   -- a row is kept for each packet up to the last frame's
   pub kept-length : length rows ≡ last_number frames
   kept-length =
       ap length stands.rows_are
-      ∙ length-map (λ (p : ℕ). unwrap_or (row_in frames p) no_row) (range_with_len 1 (last_number frames))
-      ∙ range-length 1 (last_number frames)
+      ∙ length-map-range_with_len (λ (p : ℕ). unwrap_or (row_in frames p) no_row) 1 (last_number frames)
 
   -- what differs from the rows kept differs from the frames
   pub differs-kept : (it : StreamFrame) → length rows < it.number → length it.rows ≡ rows_due history it.number
