@@ -1,5 +1,5 @@
 -- The header of a stream, from the first bytes that were read.
-use Rattle.std.proofs.Common.{◌≡◌, ℕ, ◌+◌, ◌<◌, ◌≤◌, Bool, true, false, cond, not, List, [], ◌++◌, length, take, drop, get_or, Option, Some, None, Result, Ok, Err, IfSome, refl, sym, ap, ◌∙◌, inl, inr, arith, rules, tests}
+use Rattle.std.proofs.Common.{◌≡◌, ℕ, ◌+◌, ◌<◌, ◌≤◌, Bool, true, false, cond, not, List, [], ◌++◌, length, take, drop, get_or, Option, Some, None, Result, Ok, Err, IfSome, IfOk, IfErr, refl, sym, ap, ◌∙◌, inl, inr, arith, rules, tests}
 use Rattle.std.specs.Prelude.{slice_index, nat_lt}
 use Rattle.std.specs.Io.KnownBytes.{Consumes, IsAtEnd}
 use Rattle.std.proofs.Math.ListN.{get_or-append}
@@ -67,3 +67,17 @@ shape-taken program (Some bytes) (Some behind) first shape read told =
       shape_of-same program bytes first behind read.taken read.end ∙ sym told,
       ap (λ (t : List ℕ). Some t) (sym (ap (drop 8) read.taken ∙ drop_at first behind 8 (omega arith))),
     )
+
+-- the same, of what the test of the header answers
+pub refusal-told : (result : Result Shape StreamError) (program : ℕ) (old new : Option (List ℕ)) (first : List ℕ) → IsReadInFront old new first 8
+    → result ≡ shape_of program first → IfSome old (λ bytes. IfErr result (λ error. IsFound error → shape_of program bytes ≡ Err error))
+refusal-told (Err error) program old new first read told = shape-refused program old new first error read told
+refusal-told (Ok shape) program None new first read told = tt
+refusal-told (Ok shape) program (Some bytes) new first read told = tt
+
+pub shape-told : (result : Result Shape StreamError) (program : ℕ) (old new : Option (List ℕ)) (first : List ℕ) → IsReadInFront old new first 8
+    → result ≡ shape_of program first
+    → IfSome old (λ bytes. IfOk result (λ shape. (shape_of program bytes ≡ Ok shape) × (new ≡ Some (drop 8 bytes))))
+shape-told (Ok shape) program old new first read told = shape-taken program old new first shape read told
+shape-told (Err error) program None new first read told = tt
+shape-told (Err error) program (Some bytes) new first read told = tt

@@ -1,4 +1,4 @@
-ghost use Rattle.std.specs.Prelude.{◌≡◌, ◌≤◌, length, Option, Some, None, OnOk, IfOk, IfErr, MatchResult};
+ghost use Rattle.std.specs.Prelude.{◌≡◌, ◌≢◌, ◌≤◌, length, Option, Some, None, OnOk, IfOk, IfErr, MatchResult};
 ghost use Rattle.scr_plan.specs.Limits.{longest_history};
 ghost use Rattle.scr_wire.specs.Kinds.{kind_with};
 ghost use Rattle.scr_wire.specs.Refusals.{refusal};
@@ -52,6 +52,7 @@ impl Place {
         ensures number { IfOk result (λ fields. fields.number ≡ number_in header.now) }
         ensures count { IfOk result (λ fields. fields.count ≡ count_in header.now) }
         ensures refused { IfErr result (λ error. header_fault self.now.history self.now.entry self.now.last header.now ≡ Some error) }
+        ensures no_fault { IfErr result (λ error. error ≢ StreamError.ReadFault) }
     {
         let entry = self.entry;
         if header.len() < HEADER {
@@ -66,7 +67,8 @@ impl Place {
     // Whether a message begins so, as far as its header tells.
     fn test_message(&self, header: &[u8]) -> Result<(), StreamError>
         requires { length header.now ≡ 10 }
-        ensures { MatchResult result (λ _. header_refusal (refusal header.now) ≡ None)
+        ensures no_fault { IfErr result (λ error. error ≢ StreamError.ReadFault) }
+        ensures answer { MatchResult result (λ _. header_refusal (refusal header.now) ≡ None)
             (λ error. (fields : Option StreamError) → message_fault self.now.entry (header_refusal (refusal header.now)) fields ≡ Some error) }
     {
         match decode(header) {
@@ -81,7 +83,8 @@ impl Place {
     // The tests of the kind, the number and the count of rows.
     fn test_fields(&self, fields: Fields) -> Result<(), StreamError>
         requires { self.now.history ≤ longest_history }
-        ensures { MatchResult result
+        ensures no_fault { IfErr result (λ error. error ≢ StreamError.ReadFault) }
+        ensures answer { MatchResult result
             (λ _. field_fault self.now.history self.now.entry self.now.last fields.kind fields.number fields.count ≡ None)
             (λ error. field_fault self.now.history self.now.entry self.now.last fields.kind fields.number fields.count ≡ Some error) }
     {

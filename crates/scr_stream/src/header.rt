@@ -1,4 +1,4 @@
-ghost use Rattle.std.specs.Prelude.{◌≡◌, ◌≤◌, IfOk};
+ghost use Rattle.std.specs.Prelude.{◌≡◌, ◌≢◌, ◌≤◌, IfOk, IfErr};
 ghost use Rattle.scr_plan.specs.Limits.{most_cores, longest_history};
 ghost use Rattle.scr_stream.specs.Tests.{shape_of};
 
@@ -18,6 +18,7 @@ pub struct Shape {
 #[tactic(auto, unfolding(crate::specs::Tests::shape_of))]
 pub(crate) fn shape_of(program: u8, bytes: &[u8]) -> Result<Shape, StreamError>
     ensures answer { result ≡ shape_of program bytes.now }
+    ensures no_fault { IfErr result (λ error. error ≢ StreamError.ReadFault) }
     ensures ranges { IfOk result (λ shape. (1 ≤ shape.cores) × (shape.cores ≤ most_cores) × (shape.history ≤ longest_history)) }
 {
     if bytes.len() < STREAM_HEADER {
