@@ -13,7 +13,7 @@ use Rattle.scr_wire.specs.Reading.{number_in, count_in, rows_in, message_of, mes
 use Rattle.scr_wire.specs.Spelling.{Spells, HasSpelling, spelling, number_of, rows_of}
 use Rattle.scr_wire.proofs.MessagesRead.{one_message_in}
 use Rattle.scr_stream.specs.Frames.{StreamFrame, frame_of, frame_bytes, last_number}
-use Rattle.scr_stream.specs.Tests.{kind_in, rows_due, is_misplaced, field_fault, header_fault, differs}
+use Rattle.scr_stream.specs.Tests.{kind_in, frame_in, rows_due, is_misplaced, field_fault, header_fault, differs}
 use Rattle.scr_stream.specs.Reading.{Follows}
 use Rattle.scr_stream.specs.declared.error.StreamError.{StreamError}
 use Rattle.scr_stream.specs.declared.error.StreamError.TheVariants as fault
@@ -90,3 +90,13 @@ module _ (header content : List ℕ) (it : Message) (ten : length header ≡ 10)
         all_rows = rows-are ∙ told.2 ∙ ap (rows_due history) (sym number-is);
         agrees = agrees;
       }
+
+  -- it is the frame in front
+  pub frame-in : frame_in (header ++ content) ≡ frame_of it
+  frame-in =
+      let number = number_in-append header content (omega arith) in
+      let rows : rows_in (count_in (header ++ content)) (drop 10 (header ++ content)) ≡ rows_in (count_in header) content =
+      ap (λ (n : ℕ). rows_in n (drop 10 (header ++ content))) (count_in-append header content (omega arith))
+      ∙ ap (rows_in (count_in header)) (drop_at header content 10 ten) in
+      let fields : frame_in (header ++ content) ≡ frame_of (message.Frame (number_in header) (rows_in (count_in header) content)) = cc in
+      fields ∙ ap frame_of (sym is-frame)

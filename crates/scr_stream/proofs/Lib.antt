@@ -9,3 +9,4 @@ mod FramesInFront
 mod FrameTaken
 mod Keeping
 mod HeaderRead
+mod FrameRead
