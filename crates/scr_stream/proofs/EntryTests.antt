@@ -173,6 +173,17 @@ holds : (b : Bool) → not b ≡ false → b ≡ true
 holds true none = refl
 holds false none = absurd cc
 
+-- its count of rows is allowed
+pub header-count : (header : List ℕ) → header_refusal (refusal header) ≡ None → has_count header ≡ true
+unfolding refusal
+header-count header none =
+    let long = guard _ wire.Short _ (some-apart wire.Short) none in
+    let mark = guard _ wire.Mark _ (some-apart wire.Mark) long.1 in
+    let version = guard _ wire.Version _ (some-apart wire.Version) mark.1 in
+    let code = guard _ wire.Kind _ (some-apart wire.Kind) version.1 in
+    let count = guard _ wire.Count _ (some-apart wire.Count) code.1 in
+    holds _ count.0
+
 -- with its rows behind it, it is a message
 pub refusal-whole : (header content : List ℕ) → length header ≡ 10 → header_refusal (refusal header) ≡ None → length content ≡ 56 * count_in header
     → refusal (header ++ content) ≡ None

@@ -4,7 +4,7 @@ use Rattle.std.specs.Prelude.{nat_lt, nat_le}
 use Rattle.std.proofs.lemmas.Bool.Decides.{nat_tests}
 use Rattle.std.proofs.lemmas.List.{drop_at}
 use Rattle.scr_base.specs.declared.row.Row.{Row}
-use Rattle.scr_plan.specs.Limits.{most_packets}
+use Rattle.scr_plan.specs.Limits.{most_packets, longest_history}
 use Rattle.scr_wire.specs.declared.message.Message.{Message}
 use Rattle.scr_wire.specs.declared.message.Message.TheVariants as message
 use Rattle.scr_wire.specs.declared.message.MessageKind.{MessageKind}
@@ -15,6 +15,7 @@ use Rattle.scr_wire.proofs.MessagesRead.{one_message_in}
 use Rattle.scr_stream.specs.Frames.{StreamFrame, frame_of, frame_bytes, last_number}
 use Rattle.scr_stream.specs.Tests.{kind_in, frame_in, rows_due, is_misplaced, field_fault, header_fault, differs}
 use Rattle.scr_stream.specs.Reading.{Follows}
+use Rattle.scr_stream.specs.Taken.{IsFrameHeader}
 use Rattle.scr_stream.specs.declared.error.StreamError.{StreamError}
 use Rattle.scr_stream.specs.declared.error.StreamError.TheVariants as fault
 use Rattle.scr_stream.proofs.EntryTests.{kind_in-append, number_in-append, count_in-append, header-parts}
@@ -49,6 +50,25 @@ end-fields history entry last number count none =
     let few : number ≤ most_packets = grind (arith, nat_tests, both.0) in
     let later : last ≤ number = grind (arith, nat_tests, both.1) in
     (few, later)
+
+-- such a header, where its other tests pass too
+pub frame-header : (history entry last : ℕ) (header : List ℕ) → length header ≡ 10 → history ≤ longest_history
+    → header_fault history entry last header ≡ None → kind_in header ≡ Frame → IsFrameHeader last header
+frame-header history entry last header ten short passed kind-is =
+    let parts = header-parts history entry last header ten passed in
+    let fields : field_fault history entry last Frame (number_in header) (count_in header) ≡ None =
+    ap (λ (k : MessageKind). field_fault history entry last k (number_in header) (count_in header)) (sym kind-is) ∙ parts.1 in
+    let told = frame-fields history entry last (number_in header) (count_in header) fields in
+    let due = told.2 in
+    record {
+      whole = ten;
+      kind = kind-is;
+      starts = parts.0;
+      later = told.1;
+      few = told.0;
+      no_more = omega arith;
+      few_rows = omega arith;
+    }
 
 length-rows : (count : ℕ) (bytes : List ℕ) → length (rows_in count bytes) ≡ count
 unfolding rows_in

@@ -10,3 +10,4 @@ mod FrameTaken
 mod Keeping
 mod HeaderRead
 mod FrameRead
+mod EndRead
