@@ -11,3 +11,4 @@ mod Keeping
 mod HeaderRead
 mod FrameRead
 mod EndRead
+mod EntryRead
