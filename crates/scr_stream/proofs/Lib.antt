@@ -12,3 +12,4 @@ mod HeaderRead
 mod FrameRead
 mod EndRead
 mod EntryRead
+mod WholeStream

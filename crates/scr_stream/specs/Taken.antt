@@ -1,5 +1,5 @@
 -- What a reader keeps of the frames that it took, and what it takes of its source.
-use Rattle.std.specs.Prelude.{◌≡◌, ◌≢◌, ℕ, ◌+◌, ◌<◌, ◌≤◌, ⊤, Bool, true, false, List, ◌∷◌, [], ◌++◌, length, Option, None, Result, Err}
+use Rattle.std.specs.Prelude.{◌≡◌, ◌≢◌, ℕ, ◌+◌, ◌<◌, ◌≤◌, ⊤, Bool, true, false, List, ◌∷◌, [], ◌++◌, length, Option, Some, None, IfSome, Result, Err}
 use Rattle.std.specs.Io.KnownBytes.{Consumes, IsAtEnd}
 use Rattle.scr_base.specs.Causes.{counted}
 use Rattle.scr_base.specs.declared.row.Row.{Row}
@@ -12,7 +12,7 @@ use Rattle.scr_wire.specs.Kinds.{most_rows}
 use Rattle.scr_wire.specs.Spelling.{spelling}
 use Rattle.scr_stream.specs.Frames.{StreamFrame, frame_bytes, row_in, last_number}
 use Rattle.scr_stream.specs.Tests.{kind_in, header_refusal}
-use Rattle.scr_stream.specs.Reading.{Follows, rows_from, missing_from}
+use Rattle.scr_stream.specs.Reading.{Follows, BeginWith, rows_from, missing_from}
 use Rattle.scr_stream.specs.declared.error.StreamError.{StreamError}
 use Rattle.scr_stream.specs.declared.error.StreamError.TheVariants as fault
 
@@ -76,3 +76,31 @@ pub record TakesEnd (frames : List StreamFrame) (old new : Option (List ℕ)) (r
 abbrev pub TakesEntry : (more : Bool) → (history : ℕ) → List StreamFrame → (old new : Option (List ℕ)) → List Row → List ℕ → (count : ℕ) → Type 0
 TakesEntry true history frames old new rows missing count = TakesFrame history frames old new rows missing count
 TakesEntry false history frames old new rows missing count = TakesEnd frames old new rows missing
+
+-- behind these frames stands what a source has left of the bytes that followed the header
+abbrev pub LeavesBehind : (history : ℕ) → List StreamFrame → (start now : Option (List ℕ)) → Type 0
+LeavesBehind history frames None now = ⊤
+LeavesBehind history frames (Some bytes) None = ⊥
+LeavesBehind history frames (Some bytes) (Some rest) = BeginWith history [] frames bytes rest
+
+-- so far only frames were taken, and kept
+pub record HasTakenFrames (history : ℕ) (start now : Option (List ℕ)) (rows : List Row) (missing : List ℕ) (count : ℕ) : Type 0 where
+  pub frames : List StreamFrame
+  pub stands : StandsFor history frames rows missing count
+  pub behind : LeavesBehind history frames start now
+
+-- frames and the end were taken, with nothing behind, and the rows and the missing numbers are told up to its number
+pub record HasTakenAll (history : ℕ) (start now : Option (List ℕ)) (rows : List Row) (missing : List ℕ) : Type 0 where
+  pub frames : List StreamFrame
+  pub last : ℕ
+  pub within : last_number frames ≤ last
+  pub few : last ≤ most_packets
+  pub spelled : IfSome start (λ bytes. BeginWith history [] frames bytes (spelling (End last)))
+  pub end : IsAtEnd now
+  pub rows_are : rows ≡ rows_from frames last
+  pub missing_are : missing ≡ missing_from frames last
+
+-- one or the other
+abbrev pub HasTaken : (more : Bool) → (history : ℕ) → (start now : Option (List ℕ)) → List Row → List ℕ → (count : ℕ) → Type 0
+HasTaken true history start now rows missing count = HasTakenFrames history start now rows missing count
+HasTaken false history start now rows missing count = HasTakenAll history start now rows missing
