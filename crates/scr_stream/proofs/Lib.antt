@@ -13,3 +13,4 @@ mod FrameRead
 mod EndRead
 mod EntryRead
 mod WholeStream
+mod Growing

@@ -1,21 +1,14 @@
-use Rattle.std.proofs.Common.{◌≡◌, ℕ, ◌+◌, ◌-◌, ◌++◌, ◌≤◌, List, [], ◌∷◌, ap, ◌∙◌, append_assoc, arith}
-use Rattle.std.specs.Prelude.{map}
-use Rattle.std.specs.List.{range_with_len}
-use Rattle.std.proofs.lemmas.List.FromFn.{map-range_with_len_more}
+use Rattle.std.proofs.Common.{ℕ, refl}
 use Rattle.scr_base.specs.declared.row.Row.{Row}
-use Rattle.scr_plan.proofs.FromOne.{range-suc}
 use Rattle.scr_stream.specs.Reading.{no_row}
-use Rattle.scr_stream.proofs.Ranges.{range-more, map-more}
+use Rattle.scr_stream.proofs.Growing.{map-grown, range-grown}
 use Rattle.scr_stream.proofs.taken.Taken.pass_to.Goals as goal
 
 pub loop-p-preserved : goal.loop-p-preserved
 loop-p-preserved c =
-    let first = c.last-first.result + 1 in
-    let p = c.loop-p.p in
+    let f : ℕ → Row = λ k. no_row in
     let from = c.loop-p.auto.p in
-    let rows = map-more (λ (k : ℕ). no_row) first p (omega arith) in
-    let numbers = range-more first p (omega arith) in
-    let old = c.args.self.now in
-    let rows-joined = append_assoc old.rows.items (map (λ (k : ℕ). no_row) (range_with_len first (p - first))) (no_row ∷ []) in
-    let numbers-joined = append_assoc old.missing.items (range_with_len first (p - first)) (p ∷ []) in
-    record { rows = cc; missing = cc }
+    record {
+      rows = map-grown f _ _ _ _ c.loop-p.p _ from c.loop-p.invariant.rows c.in_ok-push.ensures.items refl;
+      missing = range-grown _ _ _ _ c.loop-p.p from c.loop-p.invariant.missing c.in_ok-push-2.ensures.items;
+    }
