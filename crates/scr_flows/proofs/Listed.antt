@@ -5,7 +5,7 @@ use Rattle.std.proofs.lemmas.Option.{slice_get_within}
 use Rattle.std.specs.Cmp.{IsEquivalence}
 use Rattle.std.specs.Option.{option_map_or}
 use Rattle.std.specs.List.{AllByRecursion, IsDistinct, swap_remove}
-use Rattle.std.specs.Map.{keys_of, lookup, remove_entry, IsKeyTest}
+use Rattle.std.specs.Map.{keys_of, lookup, lookup_key, remove_entry, IsKeyTest}
 use Rattle.indexmap.specs.IndexMap.{set_value_at}
 use Rattle.scr_flows.specs.Flows.{listed}
 use Rattle.scr_flows.specs.Ring.{IsApart}
@@ -101,14 +101,28 @@ module _ {K V : Type 0} where
   module _ (test : K → Bool) where
     absent-at : (pairs : List (K × V)) (place : ℕ) (pair : K × V) → lookup test pairs ≡ None → slice_get pairs place ≡ Some pair → test pair.0 ≡ false
     absent-at [] place pair none at = cc
-    absent-at (e ∷ pairs) place pair none at = (elim (test e.0) as (λ y. test e.0 ≡ y → test pair.0 ≡ false) [
+    absent-at (e ∷ pairs) zero pair none at =
+        let is : e ≡ pair = (let some = at in cc) in
+        subst (λ (p : K × V). test p.0 ≡ false) is ((elim (test e.0) as (λ y. test e.0 ≡ y → test e.0 ≡ false) [
+          | true ↦ λ t. let none' = rw t at none in cc
+          | false ↦ λ t. t
+        ]) refl)
+    absent-at (e ∷ pairs) (suc place) pair none at = absent-at pairs place pair ((elim (test e.0) as (λ y. test e.0 ≡ y → lookup test pairs ≡ None) [
       | true ↦ λ t. let none' = rw t at none in cc
-      | false ↦ λ t. behind place at t
+      | false ↦ λ t. rw t at none
+    ]) refl) at
+
+    pub keys-at : (pairs : List (K × V)) (place : ℕ) (pair : K × V) → slice_get pairs place ≡ Some pair → slice_get (keys_of pairs) place ≡ Some pair.0
+    keys-at [] place pair at = cc
+    keys-at (e ∷ pairs) zero pair at = let is : e ≡ pair = (let some = at in cc) in ap (λ (p : K × V). Some p.0) is
+    keys-at (e ∷ pairs) (suc place) pair at = keys-at pairs place pair at
+
+    pub lookup_key-passes : (pairs : List (K × V)) (key : K) → lookup_key test pairs ≡ Some key → test key ≡ true
+    lookup_key-passes [] key found = cc
+    lookup_key-passes (e ∷ pairs) key found = (elim (test e.0) as (λ y. test e.0 ≡ y → test key ≡ true) [
+      | true ↦ λ t. let found' = rw t at found in let is : e.0 ≡ key = cc in subst (λ (k : K). test k ≡ true) is t
+      | false ↦ λ t. lookup_key-passes pairs key (rw t at found)
     ]) refl
-      where
-        behind : (place : ℕ) → slice_get (e ∷ pairs) place ≡ Some pair → test e.0 ≡ false → test pair.0 ≡ false
-        behind zero at t = let is : e ≡ pair = (let some = at in cc) in subst (λ (p : K × V). test p.0 ≡ false) is t
-        behind (suc place) at t = absent-at pairs place pair (rw t at none) at
 
     -- where no pair has the key, none of those at places has
     pub listed-absent : (pairs : List (K × V)) (places : List ℕ) → lookup test pairs ≡ None → lookup test (listed pairs places) ≡ None

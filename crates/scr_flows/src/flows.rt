@@ -1,7 +1,7 @@
-ghost use Rattle.std.specs.Prelude.{◌≡◌, ℕ, ◌<◌, ◌≤◌, List, [], ◌∷◌, length, take, slice_get, Option, None, Some, IfOk, OnOk, IsOk, IfSome, MatchOption};
+ghost use Rattle.std.specs.Prelude.{◌≡◌, ◌<◌, ◌≤◌, true, [], ◌∷◌, length, take, slice_get, Some, IfOk, OnOk, OnErr, IsOk, MatchOption};
 ghost use Rattle.std.specs.List.{IsDistinct};
-ghost use Rattle.std.specs.Map.{keys_of, lookup, remove_entry};
-ghost use Rattle.scr_flows.specs.Flows.{Known, list_of};
+ghost use Rattle.std.specs.Map.{keys_of, remove_entry};
+ghost use Rattle.scr_flows.specs.Flows.{list_of, IsAbsent, IsAt};
 
 use crate::order::Order;
 use indexmap::IndexMap;
@@ -50,7 +50,7 @@ impl<K: Eq + Hash + Copy + Drop, V: Copy + Drop> Flows<K, V> {
         ensures few { result ≤ self.now.most }
         ensures distinct { IsDistinct K.eq (keys_of (list_of self.now)) }
     {
-        self.map.len() as u32
+        self.order.len()
     }
 
     /// The place of a key.

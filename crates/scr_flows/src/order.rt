@@ -45,6 +45,14 @@ impl Order {
         })
     }
 
+    /// How many places there are.
+    #[inline(always)]
+    pub fn len(&self) -> u32
+        ensures { result ≡ length self.now.places }
+    {
+        self.len
+    }
+
     /// The place that was used last, or `end` where there is none.
     #[inline(always)]
     pub fn first(&self) -> u32
