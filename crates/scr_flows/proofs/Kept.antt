@@ -89,6 +89,16 @@ module _ {K V : Type 0} {same : K → K → Bool} {most end : ℕ} {pairs : List
         listed-at others place (before ++ after) (pair.0, value) (get-value pairs place pair value at)
             ∙ ap (λ (l : List (K × V)). (pair.0, value) ∷ l) (rest ∙ sym gone ∙ ap (λ (l : List ℕ). remove_entry (same pair.0) (listed pairs l)) (sym cut))
 
+    pub used-taken : (laws : IsEquivalence same) (pair : K × V) (value : V) → slice_get pairs place ≡ Some pair → length (set_value_at pairs place value) ≡ length pairs → IsDistinct same (keys_of (set_value_at pairs place value))
+      → listed (set_value_at pairs place value) (place ∷ (before ++ after)) ≡ take most ((pair.0, value) ∷ remove_entry (same pair.0) (listed pairs places))
+    used-taken laws pair value at long distinct =
+        let others = set_value_at pairs place value in
+        let now = used-known others long distinct in
+        let all = listed others (place ∷ (before ++ after)) in
+        let count : length all ≡ length others = length-listed others (place ∷ (before ++ after)) now.below ∙ now.count in
+        let fits = now.fits in
+        sym (take_all most all (omega (arith, count, fits))) ∙ ap (λ (l : List (K × V)). take most l) (used-list laws pair value at)
+
   -- a new flow goes to the place behind all, and comes to the front
   module _ (pair : K × V) (less : length pairs < most) where
     pub pushed-absent : Contains places (length pairs) → ⊥

@@ -72,10 +72,16 @@ impl<K: Eq + Hash + Copy + Drop, V: Copy + Drop> Flows<K, V> {
         }
     }
 
-    /// The place of the flow that was used last, or, where there is none, another number.
+    /// The place of a key, which is compared with that of the flow at the place `likely` before it is hashed.
     #[inline(always)]
-    pub fn newest(&self) -> usize {
-        self.order.first() as usize
+    pub fn find(&self, likely: usize, key: &K) -> Option<usize>
+        ensures { MatchOption result (IsAbsent K.eq self.now key.now) (IsAt K.eq self.now key.now) }
+    {
+        if self.is_at(likely, key) {
+            Some(likely)
+        } else {
+            self.place_of(key)
+        }
     }
 
     /// The entry at a place.
@@ -91,7 +97,7 @@ impl<K: Eq + Hash + Copy + Drop, V: Copy + Drop> Flows<K, V> {
     #[inline(always)]
     pub fn use_at(&mut self, place: usize, entry: V)
         requires { place < length self.old.pairs }
-        ensures list { (pair : K × V) → slice_get self.old.pairs place ≡ Some pair → list_of self.new ≡ (pair.0, entry) ∷ remove_entry (K.eq pair.0) (list_of self.old) }
+        ensures list { (pair : K × V) → slice_get self.old.pairs place ≡ Some pair → list_of self.new ≡ take self.old.most ((pair.0, entry) ∷ remove_entry (K.eq pair.0) (list_of self.old)) }
         ensures most { self.new.most ≡ self.old.most }
         ensures spare { self.new.spare ≡ self.old.spare }
     {
