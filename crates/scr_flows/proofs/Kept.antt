@@ -87,10 +87,10 @@ module _ {K V : Type 0} {same : K → K → Bool} {most end : ℕ} {pairs : List
         let gone : remove_entry (same pair.0) (listed pairs (before ++ place ∷ after)) ≡ listed pairs (before ++ after) =
         listed-without laws pairs known.distinct (same pair.0) (laws.congr pair.0) place pair at (laws.refl pair.0) before after apart-cut in
         listed-at others place (before ++ after) (pair.0, value) (get-value pairs place pair value at)
-            ∙ ap (λ (l : List (K × V)). (pair.0, value) ∷ l) (rest ∙ sym gone ∙ ap (λ (l : List ℕ). remove_entry (same pair.0) (listed pairs l)) (sym cut))
+        ∙ ap (λ (l : List (K × V)). (pair.0, value) ∷ l) (rest ∙ sym gone ∙ ap (λ (l : List ℕ). remove_entry (same pair.0) (listed pairs l)) (sym cut))
 
     pub used-taken : (laws : IsEquivalence same) (pair : K × V) (value : V) → slice_get pairs place ≡ Some pair → length (set_value_at pairs place value) ≡ length pairs → IsDistinct same (keys_of (set_value_at pairs place value))
-      → listed (set_value_at pairs place value) (place ∷ (before ++ after)) ≡ take most ((pair.0, value) ∷ remove_entry (same pair.0) (listed pairs places))
+        → listed (set_value_at pairs place value) (place ∷ (before ++ after)) ≡ take most ((pair.0, value) ∷ remove_entry (same pair.0) (listed pairs places))
     used-taken laws pair value at long distinct =
         let others = set_value_at pairs place value in
         let now = used-known others long distinct in
@@ -136,7 +136,7 @@ module _ {K V : Type 0} {same : K → K → Bool} {most end : ℕ} {pairs : List
       let there = get-within pairs last less in
       let some : gone ≡ Some there.0 = at ∙ ap (λ (l : List (K × V)). slice_get l last) are ∙ get-before pairs pair last less ∙ there.1 in
       subst (λ (o : Option (K × V)). IfSome o (λ p. left ≡ swap_remove inserted last p)) some is
-          ∙ ap (λ (l : List (K × V)). swap_remove l last there.0) are ∙ swap_remove-push pairs pair there.0 last less
+      ∙ ap (λ (l : List (K × V)). swap_remove l last there.0) are ∙ swap_remove-push pairs pair there.0 last less
 
   -- where there are as many as may be, it goes to the place of the last
   pub evicted-list : (pair : K × V) (before : List ℕ) (last : ℕ) → places ≡ before ++ last ∷ [] → most ≡ length pairs → listed (slice_set pairs last pair) (last ∷ (before ++ [])) ≡ take most (pair ∷ listed pairs places)
@@ -160,7 +160,7 @@ module _ {K V : Type 0} {same : K → K → Bool} {most end : ℕ} {pairs : List
     at-known place pair at less passes =
         let cut = cut-at place less in
         ap (λ (l : List ℕ). lookup (same key) (listed pairs l)) cut.2
-            ∙ listed-lookup laws pairs known.distinct (same key) (laws.congr key) place pair at passes cut.0 cut.1 (apart-cut cut.0 place cut.1 cut.2)
+        ∙ listed-lookup laws pairs known.distinct (same key) (laws.congr key) place pair at passes cut.0 cut.1 (apart-cut cut.0 place cut.1 cut.2)
 
     pub place-known : (found : Option ℕ) → found ≡ position (same key) (keys_of pairs) → MatchOption found ((lookup (same key) pairs ≡ None) × (lookup (same key) (listed pairs places) ≡ None))
         (λ place. (pair : K × V) × (slice_get pairs place ≡ Some pair) × (same key pair.0 ≡ true) × (lookup (same key) (listed pairs places) ≡ Some pair.1))

@@ -56,7 +56,7 @@ leads-from links place (next ∷ places) at end within absent leads = (
 
 -- a place is taken out: the one before it leads to the one behind it
 pub leads-without : (links : List ℕ) (place : ℕ) (before : List ℕ) (at : ℕ) (after : List ℕ) (end : ℕ) → ((p : ℕ) → Contains (place ∷ before) p → p < length links) → IsApart (place ∷ (before ++ at ∷ after)) → Leads links place (before ++ at ∷ after) end
-  → Leads (slice_set links (last_or place before) (first_or after end)) place (before ++ after) end
+    → Leads (slice_set links (last_or place before) (first_or after end)) place (before ++ after) end
 leads-without links place [] at [] end within apart leads = get_or-set_same links place end 0 (within place (Contains-head place []))
 leads-without links place [] at (next ∷ after) end within apart leads =
     let absent : Contains (next ∷ after) place → ⊥ = λ c. apart.0 (Contains-tail at (next ∷ after) place c) in (
@@ -71,7 +71,7 @@ leads-without links place (next ∷ before) at after end within apart leads =
 
 -- a place is put behind all
 pub leads-push : (links : List ℕ) (place : ℕ) (places : List ℕ) (at end : ℕ) → ((p : ℕ) → Contains (place ∷ places) p → p < length links) → at < length links → IsApart (place ∷ places) → (Contains (place ∷ places) at → ⊥) → Leads links place places end
-  → Leads (slice_set (slice_set links at end) (last_or place places) at) place (places ++ at ∷ []) end
+    → Leads (slice_set (slice_set links at end) (last_or place places) at) place (places ++ at ∷ []) end
 leads-push links place [] at end within below apart absent leads =
     let other : at ≢ place = λ e. absent (subst (Contains (place ∷ [])) (sym e) (Contains-head place [])) in (
       get_or-set_same (slice_set links at end) place at 0 (subst (λ n. place < n) (sym (length-set links at end)) (within place (Contains-head place []))),

@@ -95,8 +95,8 @@ module _ {K V : Type 0} where
   take-listed pairs (place ∷ places) more below =
       let at = get-within pairs place (below place (Contains-head place (places ++ more))) in
       ap (λ (l : List (K × V)). take (suc (length places)) l) (listed-at pairs place (places ++ more) at.0 at.1)
-          ∙ ap (λ (l : List (K × V)). at.0 ∷ l) (take-listed pairs places more (λ p c. below p (Contains-tail place (places ++ more) p c)))
-          ∙ sym (listed-at pairs place places at.0 at.1)
+      ∙ ap (λ (l : List (K × V)). at.0 ∷ l) (take-listed pairs places more (λ p c. below p (Contains-tail place (places ++ more) p c)))
+      ∙ sym (listed-at pairs place places at.0 at.1)
 
   module _ (test : K → Bool) where
     absent-at : (pairs : List (K × V)) (place : ℕ) (pair : K × V) → lookup test pairs ≡ None → slice_get pairs place ≡ Some pair → test pair.0 ≡ false

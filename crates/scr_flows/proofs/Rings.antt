@@ -52,10 +52,10 @@ module _ {older newer : List ℕ} {end : ℕ} {places : List ℕ} (ring : IsRing
     put-back =
         let wide = ring.newer_len in
         let pushed = leads-push newer end (reverse places) at end within-back (omega arith) apart-back
-            (λ c. elim (Contains-cons end (reverse places) at c) [ inl e ↦ other (sym e) | inr d ↦ absent (Contains-reverse places at d) ]) ring.back in
+        (λ c. elim (Contains-cons end (reverse places) at c) [ inl e ↦ other (sym e) | inr d ↦ absent (Contains-reverse places at d) ]) ring.back in
         let is : last_or end (reverse places) ≡ first = last_or-reverse places end ∙ sym ring-first in
         subst (λ l. Leads (slice_set (slice_set newer at end) first at) end l end) (sym (reverse-append (at ∷ []) places))
-            (subst (λ p. Leads (slice_set (slice_set newer at end) p at) end (reverse places ++ at ∷ []) end) is pushed)
+        (subst (λ p. Leads (slice_set (slice_set newer at end) p at) end (reverse places ++ at ∷ []) end) is pushed)
 
     pub ring-put : IsRing (slice_set (slice_set older at first) end at) (slice_set (slice_set newer at end) first at) end (at ∷ places)
     ring-put = record {

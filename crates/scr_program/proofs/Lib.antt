@@ -1,4 +1,4 @@
 pub mod Folds
-pub mod Setting
+pub mod NewEntry
 pub mod Choices
 pub mod Entering

@@ -109,7 +109,7 @@ invariant_of-self-2 g c =
     let places : c.put_first-2.new.self.places ≡ c.last-last.result ∷ (cut.0 ++ []) = ap (λ (p : Places). p.places) c.put_first-2.ensures ∙ ap (λ (l : List ℕ). c.last-last.result ∷ l) (c.take_out.ensures.places cut.0 [] at) in
     let end : c.put_first-2.new.self.end ≡ c.self.inside.order.end = ap (λ (p : Places). p.end) c.put_first-2.ensures ∙ c.take_out.ensures.end in
     rw (left, end, places) (used-known known cut.0 c.last-last.result [] at (slice_set map.entries c.last-last.result pair) (length-set map.entries c.last-last.result pair)
-        (subst (λ (l : List (g.row.K.Denot × g.row.V.Denot)). IsDistinct g.K.PartialEq.eq (keys_of l)) left c.swap_remove_index.ensures.unique))
+    (subst (λ (l : List (g.row.K.Denot × g.row.V.Denot)). IsDistinct g.K.PartialEq.eq (keys_of l)) left c.swap_remove_index.ensures.unique))
 
 pub returns-clause-list : goal.returns-clause-list
 returns-clause-list g c =

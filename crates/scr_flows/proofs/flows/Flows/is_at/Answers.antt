@@ -12,4 +12,4 @@ returns-in-Some g c h =
     let passes : g.K.PartialEq.eq c.args.key.now pair.0 ≡ true = g.met.K.Eq.laws.symm c.args.key.now pair.0 ∙ sym c.eq.ensures ∙ h in
     let less = slice_get_within c.self.inside.map.entries c.args.place pair at in
     subst (λ (k : Known g.row.K.Denot g.row.V.Denot). IsAt g.K.PartialEq.eq k c.args.key.now c.args.place) c.self.view_is
-        (pair, at, passes, at-known c.self.invariant g.met.K.Eq.laws c.args.key.now c.args.place pair at less passes)
+    (pair, at, passes, at-known c.self.invariant g.met.K.Eq.laws c.args.key.now c.args.place pair at less passes)

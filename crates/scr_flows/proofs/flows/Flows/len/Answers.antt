@@ -16,4 +16,4 @@ pub returns-clause-distinct : goal.returns-clause-distinct
 returns-clause-distinct g c =
     let known = c.self.invariant in
     subst (λ (k : Known g.row.K.Denot g.row.V.Denot). IsDistinct g.K.PartialEq.eq (keys_of (list_of k))) c.self.view_is
-        (distinct-listed g.met.K.Eq.laws c.self.inside.map.entries known.distinct c.self.inside.order.places known.apart)
+    (distinct-listed g.met.K.Eq.laws c.self.inside.map.entries known.distinct c.self.inside.order.places known.apart)

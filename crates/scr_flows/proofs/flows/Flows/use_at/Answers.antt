@@ -35,7 +35,7 @@ invariant_of-self g c =
     let places : c.put_first.new.self.places ≡ c.args.place ∷ (cut.0 ++ cut.1) = ap (λ (p : Places). p.places) c.put_first.ensures ∙ ap (λ (l : List ℕ). c.args.place ∷ l) (c.take_out.ensures.places cut.0 cut.1 cut.2) in
     let end : c.put_first.new.self.end ≡ c.self.inside.order.end = ap (λ (p : Places). p.end) c.put_first.ensures ∙ c.take_out.ensures.end in
     rw (end, places) (used-known known cut.0 c.args.place cut.1 cut.2 (set_value_at map.entries c.args.place c.args.entry) (index_map_len-with_value_at map c.args.place c.args.entry)
-        (subst (IsDistinct g.K.PartialEq.eq) (sym (keys-with_value_at map c.args.place c.args.entry)) known.distinct))
+    (subst (IsDistinct g.K.PartialEq.eq) (sym (keys-with_value_at map c.args.place c.args.entry)) known.distinct))
 
 pub invariant_of-self-else-place-first : goal.invariant_of-self-else-place-first
 invariant_of-self-else-place-first g c =
@@ -48,7 +48,7 @@ invariant_of-self-else-place-first g c =
     let last = known.end_is in
     let cut = first-cut c.self.inside.order.places c.self.inside.order.end c.args.place (is ∙ c.first.ensures) (omega (arith, less, fits, last)) in
     rw cut.1 (used-known known [] c.args.place cut.0 cut.1 (set_value_at map.entries c.args.place c.args.entry) (index_map_len-with_value_at map c.args.place c.args.entry)
-        (subst (IsDistinct g.K.PartialEq.eq) (sym (keys-with_value_at map c.args.place c.args.entry)) known.distinct))
+    (subst (IsDistinct g.K.PartialEq.eq) (sym (keys-with_value_at map c.args.place c.args.entry)) known.distinct))
 
 pub returns-then-place-first-clause-list : goal.returns-then-place-first-clause-list
 returns-then-place-first-clause-list g c pair at =
@@ -59,9 +59,9 @@ returns-then-place-first-clause-list g c pair at =
     let cut = cut-at known c.args.place less in
     let places : c.put_first.new.self.places ≡ c.args.place ∷ (cut.0 ++ cut.1) = ap (λ (p : Places). p.places) c.put_first.ensures ∙ ap (λ (l : List ℕ). c.args.place ∷ l) (c.take_out.ensures.places cut.0 cut.1 cut.2) in
     ap (λ (l : List ℕ). listed (set_value_at map.entries c.args.place c.args.entry) l) places
-        ∙ used-taken known cut.0 c.args.place cut.1 cut.2 g.met.K.Eq.laws pair c.args.entry (ap (λ (l : List (g.row.K.Denot × g.row.V.Denot)). slice_get l c.args.place) pairs ∙ at)
-            (index_map_len-with_value_at map c.args.place c.args.entry) (subst (IsDistinct g.K.PartialEq.eq) (sym (keys-with_value_at map c.args.place c.args.entry)) known.distinct)
-        ∙ ap (λ (k : Known g.row.K.Denot g.row.V.Denot). take k.most ((pair.0, c.args.entry) ∷ remove_entry (g.K.PartialEq.eq pair.0) (list_of k))) c.self.view_is
+    ∙ used-taken known cut.0 c.args.place cut.1 cut.2 g.met.K.Eq.laws pair c.args.entry (ap (λ (l : List (g.row.K.Denot × g.row.V.Denot)). slice_get l c.args.place) pairs ∙ at)
+    (index_map_len-with_value_at map c.args.place c.args.entry) (subst (IsDistinct g.K.PartialEq.eq) (sym (keys-with_value_at map c.args.place c.args.entry)) known.distinct)
+    ∙ ap (λ (k : Known g.row.K.Denot g.row.V.Denot). take k.most ((pair.0, c.args.entry) ∷ remove_entry (g.K.PartialEq.eq pair.0) (list_of k))) c.self.view_is
 
 pub returns-else-place-first-clause-list : goal.returns-else-place-first-clause-list
 returns-else-place-first-clause-list g c pair at =
@@ -74,6 +74,6 @@ returns-else-place-first-clause-list g c pair at =
     let last = known.end_is in
     let cut = first-cut c.self.inside.order.places c.self.inside.order.end c.args.place (is ∙ c.first.ensures) (omega (arith, less, fits, last)) in
     ap (λ (l : List ℕ). listed (set_value_at map.entries c.args.place c.args.entry) l) cut.1
-        ∙ used-taken known [] c.args.place cut.0 cut.1 g.met.K.Eq.laws pair c.args.entry (ap (λ (l : List (g.row.K.Denot × g.row.V.Denot)). slice_get l c.args.place) pairs ∙ at)
-            (index_map_len-with_value_at map c.args.place c.args.entry) (subst (IsDistinct g.K.PartialEq.eq) (sym (keys-with_value_at map c.args.place c.args.entry)) known.distinct)
-        ∙ ap (λ (k : Known g.row.K.Denot g.row.V.Denot). take k.most ((pair.0, c.args.entry) ∷ remove_entry (g.K.PartialEq.eq pair.0) (list_of k))) c.self.view_is
+    ∙ used-taken known [] c.args.place cut.0 cut.1 g.met.K.Eq.laws pair c.args.entry (ap (λ (l : List (g.row.K.Denot × g.row.V.Denot)). slice_get l c.args.place) pairs ∙ at)
+    (index_map_len-with_value_at map c.args.place c.args.entry) (subst (IsDistinct g.K.PartialEq.eq) (sym (keys-with_value_at map c.args.place c.args.entry)) known.distinct)
+    ∙ ap (λ (k : Known g.row.K.Denot g.row.V.Denot). take k.most ((pair.0, c.args.entry) ∷ remove_entry (g.K.PartialEq.eq pair.0) (list_of k))) c.self.view_is

@@ -31,8 +31,8 @@ invariant_of-self c =
     let places : walk c.self.inside.older.items c.self.inside.end c.self.inside.len ≡ c.args.self.now.places = ap (λ (p : Places). p.places) c.self.view_is in
     let is = get_or_read c.self.inside.older.items c.self.inside.end c.index-first.result.now (omega arith) c.index-first.ensures 0 in
     ring-put-walk ring c.self.inside.len refl c.args.place c.index-first.result.now (subst (λ n. c.args.place < n) (sym end) c.requires.below)
-        (λ there. c.requires.absent (subst (λ l. Contains l c.args.place) places there))
-        (omega (arith, ap (λ (l : List ℕ). length l) places, end, c.requires.fits)) is _ refl
+    (λ there. c.requires.absent (subst (λ l. Contains l c.args.place) places there))
+    (omega (arith, ap (λ (l : List ℕ). length l) places, end, c.requires.fits)) is _ refl
 
 pub returns : goal.returns
 returns c =
@@ -42,6 +42,6 @@ returns c =
     let places : walk c.self.inside.older.items c.self.inside.end c.self.inside.len ≡ c.args.self.now.places = ap (λ (p : Places). p.places) c.self.view_is in
     let is = get_or_read c.self.inside.older.items c.self.inside.end c.index-first.result.now (omega arith) c.index-first.ensures 0 in
     let put = walk-put ring c.self.inside.len refl c.args.place c.index-first.result.now (subst (λ n. c.args.place < n) (sym end) c.requires.below)
-        (λ there. c.requires.absent (subst (λ l. Contains l c.args.place) places there))
-        (omega (arith, ap (λ (l : List ℕ). length l) places, end, c.requires.fits)) is _ refl in
+    (λ there. c.requires.absent (subst (λ l. Contains l c.args.place) places there))
+    (omega (arith, ap (λ (l : List ℕ). length l) places, end, c.requires.fits)) is _ refl in
     λ i. record { end = end i; places = (put ∙ ap (λ (l : List ℕ). c.args.place ∷ l) places) i }
