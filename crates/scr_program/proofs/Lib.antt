@@ -1,5 +1,4 @@
 pub mod Folds
-pub mod Held
-pub mod Kept
+pub mod NewEntry
 pub mod Choices
 pub mod Entering

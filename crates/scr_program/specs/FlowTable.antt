@@ -1,9 +1,8 @@
 -- What a contract sees of a flow table.
-use Rattle.std.specs.Prelude.{ℕ, List, [], ◌∷◌, map, Option, Some, refl}
-use Rattle.std.specs.Option.{option_map_or}
+use Rattle.std.specs.Prelude.{ℕ, List, Option, refl}
 use Rattle.std.specs.Coded.{Coded, code_by, coded×, coded_list, coded_option, coded_ℕ}
 
--- how many flows there may be, the flows with the most recently used first, and the key that room is kept for
+-- how many flows there may be, the flows with the most recently used first, and the key that memory was taken for
 pub record Table (K V : Type 0) : Type 0 where
   pub flows : ℕ
   pub list : List (K × V)
@@ -12,12 +11,3 @@ pub record Table (K V : Type 0) : Type 0 where
 module _ {K V : Type 0} where
   abbrev pub table_code : Coded K → Coded V → Coded (Table K V)
   table_code key entry = code_by (ℕ × (List (K × V) × Option K)) (coded× coded_ℕ (coded× (coded_list (coded× key entry)) (coded_option key))) (λ t. (t.flows, (t.list, t.ready))) (λ p. record { flows = p.0; list = p.1.0; ready = p.1.1 }) (λ _. refl)
-
-  -- the pairs that have an entry: the key that room is kept for may have none
-  abbrev pub known : List (K × Option V) → List (K × V)
-  known [] = []
-  known (pair ∷ pairs) = option_map_or (λ entry. (pair.0, entry) ∷ known pairs) pair.1 (known pairs)
-
-  -- flows as pairs that have an entry
-  abbrev pub held : List (K × V) → List (K × Option V)
-  held list = map (λ pair. (pair.0, Some pair.1)) list

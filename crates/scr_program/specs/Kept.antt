@@ -1,29 +1,8 @@
--- How the cache under a flow table holds the flows.
-use Rattle.std.specs.Prelude.{◌≡◌, ℕ, ◌+◌, ◌<◌, ◌≤◌, ◌⊎◌, Bool, true, false, ◌∷◌, length, Option, Some, None, IfSome, IsSome}
+-- What a ready key is.
+use Rattle.std.specs.Prelude.{ℕ, ◌<◌, ◌⊎◌, Bool, Option, IfSome, IsSome}
 use Rattle.std.specs.Map.{lookup}
-use Rattle.lru.specs.LruCache.{LruCache}
-use Rattle.scr_program.specs.FlowTable.{known, held}
-use Rattle.scr_program.specs.declared.table.TheConstants.{MOST_FLOWS}
+use Rattle.scr_flows.specs.Flows.{Known, list_of}
 
-module _ {K V : Type 0} (same : K → K → Bool) (flows : ℕ) (cache : LruCache K (Option V)) (ready : Option K) (roomy : Bool) where
-  -- just the flows are there, and a ready key is one of theirs; the cache may hold one pair more
-  pub record IsPlain : Type 0 where
-    pub flat : roomy ≡ false
-    pub entries : cache.entries ≡ held (known cache.entries)
-    pub cap : (cache.cap ≡ flows) ⊎ (cache.cap ≡ flows + 1)
-    pub ready_is : IfSome ready (λ key. IsSome (lookup (same key) (known cache.entries)))
-
-  -- in front of the flows stands the ready key, which isn't one of theirs, and the cache holds one pair more
-  pub record IsRoomy : Type 0 where
-    pub raised : roomy ≡ true
-    pub key : K
-    pub ready_is : ready ≡ Some key
-    pub entries : cache.entries ≡ (key, None) ∷ held (known cache.entries)
-    pub cap : cache.cap ≡ flows + 1
-    pub absent : lookup (same key) (known cache.entries) ≡ None
-
-  pub record IsKept : Type 0 where
-    pub few : flows ≤ MOST_FLOWS
-    pub some : 0 < flows
-    pub fits : length (known cache.entries) ≤ flows
-    pub form : IsPlain ⊎ IsRoomy
+-- the ready key is a flow's, or there is memory for one more key
+abbrev pub IsReady : {K V : Type 0} → (K → K → Bool) → Known K V → Option K → Type 0
+IsReady same flows ready = IfSome ready (λ key. IsSome (lookup (same key) (list_of flows)) ⊎ (0 < flows.spare))

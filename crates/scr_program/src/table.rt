@@ -1,17 +1,14 @@
-ghost use Rattle.std.specs.Prelude.{◌≡◌, ◌≤◌, ◌⊎◌, ◌+◌, ◌^◌, ◌<◌, ◌∷◌, [], Option, None, length, take, Some, true, IfOk, OnOk, OnErr, IsOk, IsSome, is_some};
+ghost use Rattle.std.specs.Prelude.{◌≡◌, ◌≤◌, ◌⊎◌, ◌+◌, ◌<◌, [], Option, None, length, slice_get, Some, IfOk, OnOk, OnErr, IsOk, IsSome, IfSome, MatchOption};
 ghost use Rattle.std.specs.List.{IsDistinct};
-ghost use Rattle.std.specs.Option.{option_flatten};
 ghost use Rattle.std.specs.Map.{lookup, keys_of};
-ghost use Rattle.std.specs.NonZero.{non_zero_usize_get};
-ghost use Rattle.lru.specs.LruCache.{lru_cache, put_entries};
+ghost use Rattle.scr_flows.specs.Flows.{list_of, IsAbsent, IsAt};
 ghost use Rattle.scr_program.specs.FlowList.{set_key, entered_list};
 
 use crate::key::FlowKey;
-use lru::LruCache;
 use scr_base::OutOfMemory;
+use scr_flows::Flows;
 use std::alloc::Global;
 use std::marker::Model;
-use std::num::NonZeroUsize;
 
 /// The most flows that a table may hold.
 pub const MOST_FLOWS: u32 = 65_536;
@@ -22,26 +19,24 @@ pub const MOST_FLOWS: u32 = 65_536;
 /// key, for which the memory of a [`FlowTable::set`] was taken before.
 #[derive(Drop)]
 pub struct FlowTable<K: FlowKey, V: Copy + Drop> {
-    // From the first ready key on that was no flow the cache may hold one pair more than there may be flows.
-    cache: LruCache<K, Option<V>>,
-    flows: NonZeroUsize,
+    flows: Flows<K, V>,
+    // Where a key is looked for first: the place of the ready key, or that of the newest.
+    likely: usize,
     ready: Option<K>,
-    // Whether the ready key is no flow, and stands in front without an entry.
-    is_roomy: bool,
 }
 
 impl<K: FlowKey, V: Copy + Drop> Model for FlowTable<K, V> {
-    ghost use Rattle.std.specs.NonZero.{non_zero_usize_get};
-    ghost use Rattle.scr_program.specs.FlowTable.{Table, table_code, known};
-    ghost use Rattle.scr_program.specs.Kept.{IsKept};
+    ghost use Rattle.scr_flows.specs.Flows.{list_of};
+    ghost use Rattle.scr_program.specs.FlowTable.{Table, table_code};
+    ghost use Rattle.scr_program.specs.Kept.{IsReady};
 
     ghost Value = { Table K V };
 
     ghost coded = { table_code K.code V.code };
 
-    ghost view = { λ t. record { flows = non_zero_usize_get t.flows; list = known t.cache.entries; ready = t.ready } };
+    ghost view = { λ t. record { flows = t.flows.most; list = list_of t.flows; ready = t.ready } };
 
-    ghost invariant = { λ t. IsKept K.eq (non_zero_usize_get t.flows) t.cache t.ready t.is_roomy };
+    ghost invariant = { λ t. IsReady K.eq t.flows t.ready };
 }
 
 impl<K: FlowKey, V: Copy + Drop> FlowTable<K, V> {
@@ -51,12 +46,10 @@ impl<K: FlowKey, V: Copy + Drop> FlowTable<K, V> {
         requires few { flows ≤ MOST_FLOWS }
         ensures { IfOk result (λ table. table ≡ record { flows = flows; list = []; ready = None }) }
     {
-        let flows = NonZeroUsize::new(flows as usize).unwrap();
         Ok(FlowTable {
-            cache: LruCache::new(alloc, flows)?,
-            flows,
+            flows: Flows::make(alloc, flows)?,
+            likely: 0,
             ready: None,
-            is_roomy: false,
         })
     }
 
@@ -65,20 +58,7 @@ impl<K: FlowKey, V: Copy + Drop> FlowTable<K, V> {
     pub fn look(&self, key: &K) -> Option<V>
         ensures { result ≡ lookup (K.eq key.now) self.now.list }
     {
-        // The packets of a flow often follow each other, and comparing keys takes less than hashing one.
-        if let Some((newest, entry)) = self.cache.peek_mru()
-            && newest == key
-        {
-            return *entry;
-        }
-        self.find(key)
-    }
-
-    // Looks a key up by its hash.
-    fn find(&self, key: &K) -> Option<V>
-        ensures { result ≡ lookup (K.eq key.now) self.now.list }
-    {
-        self.cache.peek(key).copied().flatten()
+        entry_at(&self.flows, self.flows.find(self.likely, key))
     }
 
     /// How many flows there are. Their keys are distinct.
@@ -87,9 +67,7 @@ impl<K: FlowKey, V: Copy + Drop> FlowTable<K, V> {
         ensures few { result ≤ self.now.flows }
         ensures distinct { IsDistinct K.eq (keys_of self.now.list) }
     {
-        let pairs = self.cache.len();
-        let flows = if self.is_roomy { pairs - 1 } else { pairs };
-        flows as u32
+        self.flows.len()
     }
 
     /// Gives a key this entry, and makes it the most recently used. In a full table the least recently used flow goes
@@ -128,12 +106,10 @@ impl<K: FlowKey, V: Copy + Drop> FlowTable<K, V> {
         ensures known_succeeds { IsSome (lookup (K.eq key.now) self.old.list) → IsOk result }
         ensures ready_succeeds { self.old.ready ≡ Some key.now → IsOk result }
     {
-        if self.is_roomy {
-            return self.update_with_room(key, next);
-        }
         self.ready = None;
-        let told = change(&mut self.cache, key, next)?;
-        truncate(&mut self.cache, self.flows);
+        let place = self.flows.find(self.likely, key);
+        let (entry, told) = next(entry_at(&self.flows, place));
+        self.likely = enter(&mut self.flows, place, key, entry)?;
         Ok(told)
     }
 
@@ -156,36 +132,13 @@ impl<K: FlowKey, V: Copy + Drop> FlowTable<K, V> {
         ensures known_succeeds { IsSome (lookup (K.eq key.now) self.old.list) → IsOk result }
         ensures ready_succeeds { self.old.ready ≡ Some key.now → IsOk result }
     {
-        let (after, told) = next(self.look(key));
+        let place = self.flows.find(self.likely, key);
+        let (after, told) = next(entry_at(&self.flows, place));
         let Some(entry) = after else {
             return Ok(told);
         };
-        self.update(key, |_| (entry, ()))?;
-        Ok(told)
-    }
-
-    // The same where a ready key stands in front without an entry.
-    #[cold]
-    #[inline(never)]
-    fn update_with_room<T: Drop, F: FnOnce(Option<V>) -> (V, T)>(
-        &mut self,
-        key: &K,
-        next: F,
-    ) -> Result<T, OutOfMemory>
-        requires { F.IsAlwaysCallable next }
-        ensures updated { IfOk result (λ told. (entry : V) × F.post next (lookup (K.eq key.now) self.old.list) (entry, told)
-            × (self.new.list ≡ set_key K.eq self.old.flows self.old.list key.now entry)) }
-        ensures err { OnErr result (self.new.list ≡ self.old.list) }
-        ensures flows { self.new.flows ≡ self.old.flows }
-        ensures ready { self.new.ready ≡ None }
-        ensures known_succeeds { IsSome (lookup (K.eq key.now) self.old.list) → IsOk result }
-        ensures ready_succeeds { self.old.ready ≡ Some key.now → IsOk result }
-    {
-        self.forget_other(key);
-        let told = change(&mut self.cache, key, next)?;
-        truncate(&mut self.cache, self.flows);
         self.ready = None;
-        self.is_roomy = false;
+        self.likely = enter(&mut self.flows, place, key, entry)?;
         Ok(told)
     }
 
@@ -201,138 +154,76 @@ impl<K: FlowKey, V: Copy + Drop> FlowTable<K, V> {
         ensures known_succeeds { IsSome (lookup (K.eq key) self.old.list) → IsOk result }
         ensures ready_succeeds { self.old.ready ≡ Some key → IsOk result }
     {
-        if !self.is_roomy && holds(&self.cache, &key) {
-            self.ready = Some(key);
-            return Ok(());
-        }
-        self.prepare_with_room(key)
+        let Some(place) = self.flows.find(self.likely, &key) else {
+            return self.prepare_new(key);
+        };
+        self.likely = place;
+        self.ready = Some(key);
+        Ok(())
     }
 
-    // The same where room is to be made for the key, or was made for one.
+    // The same of a key that is no flow's.
     #[cold]
     #[inline(never)]
-    fn prepare_with_room(&mut self, key: K) -> Result<(), OutOfMemory>
+    fn prepare_new(&mut self, key: K) -> Result<(), OutOfMemory>
+        requires { lookup (K.eq key) self.old.list ≡ None }
         ensures ok { OnOk result (self.new ≡ record self.old { ready = Some key }) }
         ensures err { OnErr result (self.new ≡ record self.old { ready = None }) }
-        ensures known_succeeds { IsSome (lookup (K.eq key) self.old.list) → IsOk result }
         ensures ready_succeeds { self.old.ready ≡ Some key → IsOk result }
     {
-        self.forget_other(&key);
-        if self.cache.contains(&key) {
-            self.ready = Some(key);
-            return Ok(());
-        }
-        let room = make_room(&mut self.cache, self.flows, key);
-        self.is_roomy = room.is_ok();
-        self.ready = room.is_ok().then_some(key);
+        let room = self.flows.reserve();
+        self.ready = if room.is_ok() { Some(key) } else { None };
         room
     }
-
-    // Forgets the ready key, if it is another one than this.
-    fn forget_other(&mut self, key: &K)
-        ensures flows { self.new.flows ≡ self.old.flows }
-        ensures list { self.new.list ≡ self.old.list }
-        ensures other { (self.new.ready ≡ None) ⊎ (self.new.ready ≡ Some key.now) }
-        ensures same { self.old.ready ≡ Some key.now → self.new.ready ≡ Some key.now }
-    {
-        if let Some(ready) = &self.ready
-            && ready != key
-        {
-            self.forget_ready();
-        }
-    }
-
-    // Forgets the ready key. Where it is no flow, it goes.
-    #[inline(never)]
-    fn forget_ready(&mut self)
-        ensures { self.new ≡ record self.old { ready = None } }
-    {
-        if self.is_roomy {
-            drop(self.cache.pop_mru());
-        }
-        self.is_roomy = false;
-        self.ready = None;
-    }
 }
 
-// Whether a key is there. The newest one is asked first, as in a look-up.
+// The entry at a place, where there is one.
 #[inline(always)]
-fn holds<K: FlowKey, V: Copy + Drop>(cache: &LruCache<K, Option<V>>, key: &K) -> bool
-    ensures { result ≡ is_some (lookup (K.eq key.now) cache.now.entries) }
+fn entry_at<K: FlowKey, V: Copy + Drop>(flows: &Flows<K, V>, place: Option<usize>) -> Option<V>
+    requires { IfSome place (λ at. at < length flows.now.pairs) }
+    ensures { MatchOption place (result ≡ None) (λ at. (pair : K × V) → slice_get flows.now.pairs at ≡ Some pair → result ≡ Some pair.1) }
 {
-    match cache.peek_mru() {
-        Some((newest, _)) if newest == key => true,
-        _ => cache.contains(key),
+    match place {
+        Some(place) => Some(flows.entry(place)),
+        None => None,
     }
 }
 
-// Puts a pair in front, with the entry that `next` makes of the one of its key.
+// Gives the key at a place, or a new one, this entry, and puts it in front. Answers its place.
 #[inline(always)]
-fn change<K: FlowKey, V: Copy + Drop, T: Drop, F: FnOnce(Option<V>) -> (V, T)>(
-    cache: &mut LruCache<K, Option<V>>,
+fn enter<K: FlowKey, V: Copy + Drop>(
+    flows: &mut Flows<K, V>,
+    place: Option<usize>,
     key: &K,
-    next: F,
-) -> Result<T, OutOfMemory>
-    requires { F.IsAlwaysCallable next }
-    ensures put { IfOk result (λ told. (entry : V) × F.post next (option_flatten (lookup (K.eq key.now) cache.old.entries)) (entry, told)
-        × (cache.new ≡ lru_cache (put_entries K.eq cache.old key.now (Some entry)) cache.old.cap)) }
-    ensures err { OnErr result ((cache.new ≡ cache.old) × (lookup (K.eq key.now) cache.old.entries ≡ None)) }
-    ensures succeeds { IsSome (lookup (K.eq key.now) cache.old.entries) → IsOk result }
+    entry: V,
+) -> Result<usize, OutOfMemory>
+    requires { MatchOption place (IsAbsent K.eq flows.old key.now) (IsAt K.eq flows.old key.now) }
+    ensures set { OnOk result (list_of flows.new ≡ set_key K.eq flows.old.most (list_of flows.old) key.now entry) }
+    ensures err { OnErr result (list_of flows.new ≡ list_of flows.old) }
+    ensures most { flows.new.most ≡ flows.old.most }
+    ensures known_succeeds { IsSome (lookup (K.eq key.now) (list_of flows.old)) → IsOk result }
+    ensures spare_succeeds { 0 < flows.old.spare → IsOk result }
 {
-    if let Some(held) = cache.get_mut(key) {
-        let (entry, told) = next(*held);
-        *held = Some(entry);
-        return Ok(told);
-    }
-    let (entry, told) = next(None);
-    put(cache, *key, entry)?;
-    Ok(told)
+    let Some(place) = place else {
+        return add(flows, *key, entry);
+    };
+    flows.use_at(place, entry);
+    Ok(place)
 }
 
-// Puts a pair in front. It stands apart, as a step mostly finds its key.
+// Puts a new flow in front. It stands apart, as a step mostly finds its key.
+#[cold]
 #[inline(never)]
-fn put<K: FlowKey, V: Copy + Drop>(
-    cache: &mut LruCache<K, Option<V>>,
+fn add<K: FlowKey, V: Copy + Drop>(
+    flows: &mut Flows<K, V>,
     key: K,
     entry: V,
-) -> Result<(), OutOfMemory>
-    ensures put { OnOk result (cache.new ≡ lru_cache (put_entries K.eq cache.old key (Some entry)) cache.old.cap) }
-    ensures err { OnErr result ((cache.new ≡ cache.old) × (lookup (K.eq key) cache.old.entries ≡ None)) }
-    ensures succeeds { IsSome (lookup (K.eq key) cache.old.entries) → IsOk result }
+) -> Result<usize, OutOfMemory>
+    requires { IsAbsent K.eq flows.old key }
+    ensures set { OnOk result (list_of flows.new ≡ set_key K.eq flows.old.most (list_of flows.old) key entry) }
+    ensures err { OnErr result (list_of flows.new ≡ list_of flows.old) }
+    ensures most { flows.new.most ≡ flows.old.most }
+    ensures spare_succeeds { 0 < flows.old.spare → IsOk result }
 {
-    cache.put(key, Some(entry))?;
-    Ok(())
-}
-
-// Drops the last pair where there is one more than the flows may be.
-#[inline(always)]
-fn truncate<K: FlowKey, V: Copy + Drop>(cache: &mut LruCache<K, Option<V>>, flows: NonZeroUsize)
-    requires { length cache.old.entries ≤ non_zero_usize_get flows + 1 }
-    ensures { cache.new ≡ lru_cache (take (non_zero_usize_get flows) cache.old.entries) cache.old.cap }
-{
-    if cache.len() > flows.get() {
-        drop(cache.pop_lru());
-    }
-}
-
-// Puts a key that isn't there in front of all pairs, without an entry and with room for it beside the flows.
-fn make_room<K: FlowKey, V: Copy + Drop>(
-    cache: &mut LruCache<K, Option<V>>,
-    flows: NonZeroUsize,
-    key: K,
-) -> Result<(), OutOfMemory>
-    requires absent { lookup (K.eq key) cache.old.entries ≡ None }
-    requires fits { length cache.old.entries ≤ non_zero_usize_get flows }
-    requires held { length cache.old.entries ≤ cache.old.cap }
-    requires few { non_zero_usize_get flows ≤ 2 ^ 17 }
-    ensures new { OnOk result (cache.new ≡ lru_cache ((key, None) ∷ cache.old.entries) (non_zero_usize_get flows + 1)) }
-    ensures err { OnErr result (cache.new ≡ cache.old) }
-{
-    let cap = cache.cap();
-    cache.resize(flows.saturating_add(1));
-    if let Err(failed) = cache.put(key, None) {
-        cache.resize(cap);
-        return Err(failed.into());
-    }
-    Ok(())
+    flows.add(key, entry)
 }
