@@ -24,6 +24,6 @@ module _ {K V : Type 0} (same : K → K → Bool) (most : ℕ) (list : List (K �
 
 -- the entry at the place of a key is the one that the flows have
 pub entry-known : {K V : Type 0} (same : K → K → Bool) (flows : Known K V) (key : K) (place : Option ℕ) (found : Option V) → MatchOption place (IsAbsent same flows key) (IsAt same flows key)
-  → MatchOption place (found ≡ None) (λ at. (pair : K × V) → slice_get flows.pairs at ≡ Some pair → found ≡ Some pair.1) → found ≡ lookup (same key) (list_of flows)
+    → MatchOption place (found ≡ None) (λ at. (pair : K × V) → slice_get flows.pairs at ≡ Some pair → found ≡ Some pair.1) → found ≡ lookup (same key) (list_of flows)
 entry-known same flows key None found absent none = none ∙ sym absent.1
 entry-known same flows key (Some place) found at is = is at.0 at.1 ∙ sym at.3

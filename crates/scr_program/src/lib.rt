@@ -3,8 +3,8 @@
 //! **What it does.** A [`Program`] makes a row of a frame and takes the rows one after another, with a verdict on each.
 //! One that keeps an entry for each key is [`Keyed`], and by that a program. [`fields_of`], [`pack`] and [`unpack`] turn a
 //! frame into fields and fields into a row and back, [`is_packet`] and its kin tell kinds, and [`read_setting`] reads the
-//! value of a setting. A [`FlowTable`] keeps the flows that were used last, over the cache of the crate `lru`, by keys such
-//! as an [`Address`] or a [`FiveTuple`]. [`FlowTable::update`] changes an entry by one look-up.
+//! value of a setting. A [`FlowTable`] keeps the flows that were used last, over those of scr_flows, by keys such as an
+//! [`Address`] or a [`FiveTuple`]. [`FlowTable::update`] and [`FlowTable::update_where`] change an entry by one look-up.
 //!
 //! **What a contract sees.** A program by six definitions over plain data: the row of a frame and a time, whether a
 //! state stands for a list of rows, the verdict of a row after a list, the count of entries after a list, whether a
@@ -20,8 +20,7 @@
 //! **What is only tested.** That calls succeed where there is memory, and the words of a datagram's rows.
 //!
 //! **Limits.** A table holds at most 65,536 flows, and hashes by a seed that is fixed and known: whoever picks the keys
-//! can make look-ups slow, and can't change their answers. A key that is made ready is looked up once more, unless it is
-//! that of the newest flow. The cache of a table in which a new key was once made ready keeps room for one pair more.
+//! can make look-ups slow, and can't change their answers.
 #![tactic(auto)]
 
 mod fields;
