@@ -45,6 +45,7 @@ impl FrameBuf {
     }
 
     /// Takes a frame of this size, or as much of it as stands before the end, and answers how many bytes that was.
+    #[inline(always)]
     pub fn fill<S: Source>(&mut self, source: &mut S, size: usize) -> Result<usize, Failed>
         requires { size ≤ LONGEST }
         ensures within { IfOk result (λ count. count ≤ size) }
@@ -59,9 +60,18 @@ impl FrameBuf {
         self.filled = count;
         Ok(count)
     }
+
+    /// Keeps the first bytes of the frame, and lets those behind them go.
+    pub fn truncate(&mut self, size: usize)
+        requires { size ≤ length self.old }
+        ensures { self.new ≡ take size self.old }
+    {
+        self.filled = size;
+    }
 }
 
 // Fills the first `size` bytes of the room, as `fill` does.
+#[inline(always)]
 fn fill_front<S: Source>(source: &mut S, room: &mut [u8], size: usize) -> Result<usize, Failed>
     requires { size ≤ length room.old }
     ensures within { IfOk result (λ count. count ≤ size) }

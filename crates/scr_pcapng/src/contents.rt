@@ -29,6 +29,7 @@ fn cut_to(snap: u32, original: u32) -> u32
 impl BlockReader {
     // What a block tells, by its head and, of an interface, by the value that tells its unit; or the first test of its
     // content that fails.
+    #[inline(always)]
     #[tactic(auto, unfolding(crate::specs::Contents::content_by))]
     pub(crate) fn content(&self, head: &Head, unit: Option<u8>) -> Result<Content, NgError>
         requires { is_total head.now.kind head.now.total ≡ true }
@@ -45,6 +46,8 @@ impl BlockReader {
         }
     }
 
+    #[cold]
+    #[inline(never)]
     fn section(&self, head: &Head) -> Result<Content, NgError>
         ensures told { result ≡ section_in self.now.position head.now.order head.now.bytes }
         ensures placed { IfOk result (IsPlaced (head_of head.now.kind) head.now.total) }
@@ -58,6 +61,8 @@ impl BlockReader {
         Ok(Content::NewSection(head.order))
     }
 
+    #[cold]
+    #[inline(never)]
     fn interface(&self, head: &Head, unit: Option<u8>) -> Result<Content, NgError>
         ensures told { result ≡ interface_with self.now.position head.now.order head.now.bytes unit }
         ensures placed { IfOk result (IsPlaced (head_of head.now.kind) head.now.total) }
@@ -80,6 +85,8 @@ impl BlockReader {
     }
 
     // A packet whose block doesn't say its interface, its time and how much of it was captured.
+    #[cold]
+    #[inline(never)]
     fn simple(&self, head: &Head) -> Result<Content, NgError>
         requires size { 16 ≤ head.now.total }
         ensures told { result ≡ simple_on self.now.position head.now.order head.now.total head.now.bytes (slice_get self.now.position.interfaces 0) }
@@ -92,6 +99,7 @@ impl BlockReader {
         self.packet_on(interface, 0, captured, 12, head.total - 16)
     }
 
+    #[inline(always)]
     fn enhanced(&self, head: &Head) -> Result<Content, NgError>
         requires size { 32 ≤ head.now.total }
         ensures told { result ≡ enhanced_on self.now.position head.now.order head.now.total head.now.bytes
@@ -114,6 +122,7 @@ impl BlockReader {
     }
 
     // A packet of this interface, with room for so many bytes from a place on.
+    #[inline(always)]
     #[tactic(auto, unfolding(crate::specs::Contents::packet_on))]
     fn packet_on(
         &self,

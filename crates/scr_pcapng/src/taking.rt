@@ -11,8 +11,9 @@ ghost use Rattle.scr_pcapng.specs.Steps.{Steps, answer_with, info_in};
 use crate::content::Content;
 use crate::error::{AnyError, NgError};
 use crate::head::Head;
+use crate::kind::Kind;
 use crate::options::take_options;
-use crate::passing::{take_frame, take_tail};
+use crate::passing::take_rest;
 use crate::progress::Progress;
 use crate::reader::{BLOCKS, BlockReader, captured_of};
 use scr_base::{OutOfMemory, Source};
@@ -45,16 +46,71 @@ impl BlockReader {
         let unit = take_options(source, head, block)?;
         let content = self.content(head, unit);
         let captured = captured_of(&content);
-        take_frame(source, captured, frame, block)?;
         let size = head.total - head.front() - captured;
-        let second = take_tail(source, head.order, size, block)?;
+        let second = take_rest(source, head.order, captured, size, frame, block)?;
         if second != head.total {
             return Err(self.length().into());
         }
         Ok(content?)
     }
 
+    // The same, where the block is seldom that of a packet.
+    #[cold]
+    #[inline(never)]
+    fn take_other_body<S: Source>(
+        &self,
+        source: &mut S,
+        head: &Head,
+        frame: &mut FrameBuf,
+    ) -> Result<Content, AnyError>
+        requires { is_total head.now.kind head.now.total ≡ true }
+        ensures taken { IfOk result (λ content. (front : Option (List ℕ))
+            → HasGivenHead self.now.position front (S.left source.old) head.now.kind head.now.order head.now.total head.now.bytes
+            → TakesBlock self.now.position front (S.left source.new) content frame.new) }
+        ensures faulty { (front : Option (List ℕ))
+            → HasGivenHead self.now.position front (S.left source.old) head.now.kind head.now.order head.now.total head.now.bytes
+            → IsFaultAt self.now.position front result }
+        ensures length { IfOk result (λ content. captured_by content ≡ length frame.new) }
+        ensures accepted { IfOk result (IsAccepted self.now.position) }
+        ensures few { (front : Option (List ℕ))
+            → HasGivenHead self.now.position front (S.left source.old) head.now.kind head.now.order head.now.total head.now.bytes
+            → GivesAtMost head.now.total front (S.left source.new) }
+        ensures counts { S.faults source.new ≡ faults_counted result (S.faults source.old) }
+    {
+        self.take_body(source, head, frame)
+    }
+
+    // The same, where the block is mostly that of a packet.
+    #[inline(always)]
+    fn take_any_body<S: Source>(
+        &self,
+        source: &mut S,
+        head: &Head,
+        frame: &mut FrameBuf,
+    ) -> Result<Content, AnyError>
+        requires { is_total head.now.kind head.now.total ≡ true }
+        ensures taken { IfOk result (λ content. (front : Option (List ℕ))
+            → HasGivenHead self.now.position front (S.left source.old) head.now.kind head.now.order head.now.total head.now.bytes
+            → TakesBlock self.now.position front (S.left source.new) content frame.new) }
+        ensures faulty { (front : Option (List ℕ))
+            → HasGivenHead self.now.position front (S.left source.old) head.now.kind head.now.order head.now.total head.now.bytes
+            → IsFaultAt self.now.position front result }
+        ensures length { IfOk result (λ content. captured_by content ≡ length frame.new) }
+        ensures accepted { IfOk result (IsAccepted self.now.position) }
+        ensures few { (front : Option (List ℕ))
+            → HasGivenHead self.now.position front (S.left source.old) head.now.kind head.now.order head.now.total head.now.bytes
+            → GivesAtMost head.now.total front (S.left source.new) }
+        ensures counts { S.faults source.new ≡ faults_counted result (S.faults source.old) }
+    {
+        if head.kind == Kind::EnhancedPacket {
+            self.take_body(source, head, frame)
+        } else {
+            self.take_other_body(source, head, frame)
+        }
+    }
+
     // Goes behind a block.
+    #[inline(always)]
     fn accept(&mut self, content: Content) -> Result<(), OutOfMemory>
         requires few { self.old.position.blocks < BLOCKS }
         requires accepted { IsAccepted self.old.position content }
@@ -98,7 +154,7 @@ impl BlockReader {
         let Some(head) = self.take_head(source)? else {
             return Ok(None);
         };
-        let content = self.take_body(source, &head, frame)?;
+        let content = self.take_any_body(source, &head, frame)?;
         self.accept(content)?;
         Ok(Some(content))
     }
@@ -122,6 +178,7 @@ impl BlockReader {
     }
 
     // The packet in a block that was taken, if it is one.
+    #[inline(always)]
     fn packet(&self, content: Content) -> Option<RecordInfo>
         ensures { result ≡ info_in self.now.position.packets content }
     {
@@ -156,6 +213,7 @@ impl BlockReader {
     }
 
     // Takes blocks up to the next packet, whose bytes `frame` then holds; `None` at the end or at an error.
+    #[inline(always)]
     fn take_packet<S: Source>(&mut self, source: &mut S, frame: &mut FrameBuf) -> Option<RecordInfo>
         requires { self.old.progress ≡ Progress.Reading }
         ensures steps { Steps self.old (S.left source.old) (S.faults source.old) self.new (S.left source.new) (S.faults source.new) frame.new result }
@@ -169,6 +227,7 @@ impl BlockReader {
     }
 
     // What a reader answers that found this. It has come no further than is taken.
+    #[inline(always)]
     fn answer(&self, found: Option<RecordInfo>) -> Result<Option<RecordInfo>, AnyError>
         ensures told { result ≡ answer_with self.now.progress found }
         ensures few_packets { self.now.position.packets ≤ RECORDS }
@@ -183,6 +242,7 @@ impl BlockReader {
 
     /// Takes the next packet, whose bytes `frame` then holds; `None` at the end. An error is answered again by each
     /// later call, which reads nothing; `frame` then holds some bytes.
+    #[inline(always)]
     pub(crate) fn next<S: Source>(
         &mut self,
         source: &mut S,
