@@ -30,12 +30,6 @@ pub record TakesTail (old new : Option (List ℕ)) (order : Order) (size told : 
   pub all : length bytes ≡ size
   pub number : told ≡ number_at order (size - 4) 4 bytes
 
--- a source gave these bytes of a packet, and then so many bytes, of which the last four tell this number
-pub record TakesRest (old new : Option (List ℕ)) (order : Order) (size : ℕ) (frame : List ℕ) (told : ℕ) : Type 0 where
-  pub between : Option (List ℕ)
-  pub framed : Consumes old between frame
-  pub tail : TakesTail between new order size told
-
 -- a source gave so many bytes of options, which tell this unit
 pub record TakesUnit (old new : Option (List ℕ)) (order : Order) (size : ℕ) (unit : Option ℕ) : Type 0 where
   pub bytes : List ℕ

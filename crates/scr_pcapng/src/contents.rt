@@ -1,4 +1,4 @@
-ghost use Rattle.std.specs.Prelude.{◌≡◌, ◌≤◌, ◌<◌, ◌+◌, ℕ, length, true, IfOk, slice_get};
+ghost use Rattle.std.specs.Prelude.{◌≡◌, ◌≤◌, ◌<◌, ◌+◌, ◌++◌, ℕ, List, length, true, None, IfOk, slice_get};
 ghost use Rattle.scr_pcap.specs.Header.{number_at};
 ghost use Rattle.scr_pcapng.specs.Blocks.{head_of, is_total};
 ghost use Rattle.scr_pcapng.specs.Contents.{IsAccepted, IsPlaced, content_by, cut_to, enhanced_on, interface_with, number_of, packet_on, section_in, simple_on};
@@ -29,7 +29,6 @@ fn cut_to(snap: u32, original: u32) -> u32
 impl BlockReader {
     // What a block tells, by its head and, of an interface, by the value that tells its unit; or the first test of its
     // content that fails.
-    #[inline(always)]
     #[tactic(auto, unfolding(crate::specs::Contents::content_by))]
     pub(crate) fn content(&self, head: &Head, unit: Option<u8>) -> Result<Content, NgError>
         requires { is_total head.now.kind head.now.total ≡ true }
@@ -46,8 +45,6 @@ impl BlockReader {
         }
     }
 
-    #[cold]
-    #[inline(never)]
     fn section(&self, head: &Head) -> Result<Content, NgError>
         ensures told { result ≡ section_in self.now.position head.now.order head.now.bytes }
         ensures placed { IfOk result (IsPlaced (head_of head.now.kind) head.now.total) }
@@ -61,8 +58,6 @@ impl BlockReader {
         Ok(Content::NewSection(head.order))
     }
 
-    #[cold]
-    #[inline(never)]
     fn interface(&self, head: &Head, unit: Option<u8>) -> Result<Content, NgError>
         ensures told { result ≡ interface_with self.now.position head.now.order head.now.bytes unit }
         ensures placed { IfOk result (IsPlaced (head_of head.now.kind) head.now.total) }
@@ -85,8 +80,6 @@ impl BlockReader {
     }
 
     // A packet whose block doesn't say its interface, its time and how much of it was captured.
-    #[cold]
-    #[inline(never)]
     fn simple(&self, head: &Head) -> Result<Content, NgError>
         requires size { 16 ≤ head.now.total }
         ensures told { result ≡ simple_on self.now.position head.now.order head.now.total head.now.bytes (slice_get self.now.position.interfaces 0) }
@@ -99,7 +92,30 @@ impl BlockReader {
         self.packet_on(interface, 0, captured, 12, head.total - 16)
     }
 
+    // An enhanced packet, by the bytes of its block behind the total length.
     #[inline(always)]
+    pub(crate) fn enhanced_behind(&self, rest: &[u8], total: u32) -> Result<Content, NgError>
+        requires size { 32 ≤ total }
+        requires enough { 24 ≤ length rest.now }
+        ensures told { (first : List ℕ) → length first ≡ 8
+            → result ≡ content_by self.now.position Kind.EnhancedPacket self.now.position.order total (first ++ rest.now) None }
+        ensures placed { IfOk result (IsPlaced 28 total) }
+        ensures accepted { IfOk result (IsAccepted self.now.position) }
+    {
+        let interface = self.interface_at(self.order.u32_at(rest, 0))?;
+        let high = self.order.u32_at(rest, 4);
+        let low = self.order.u32_at(rest, 8);
+        let time = (u64::from(high) << 32) + u64::from(low);
+        let captured = self.order.u32_at(rest, 12);
+        self.packet_on(
+            interface,
+            microseconds(interface.units, time),
+            captured,
+            28,
+            total - 32,
+        )
+    }
+
     fn enhanced(&self, head: &Head) -> Result<Content, NgError>
         requires size { 32 ≤ head.now.total }
         ensures told { result ≡ enhanced_on self.now.position head.now.order head.now.total head.now.bytes

@@ -22,7 +22,6 @@ pub(crate) struct Head {
 
 impl Head {
     // How many of a block's bytes were taken behind which a packet's bytes or the block's end stand.
-    #[inline(always)]
     pub(crate) fn front(&self) -> u32
         requires { is_total self.now.kind self.now.total ≡ true }
         ensures { result ≡ head_of self.now.kind + options_size self.now.kind self.now.total }
@@ -38,8 +37,6 @@ impl Head {
 }
 
 // The order in which a section's mark has its value.
-#[cold]
-#[inline(never)]
 pub(crate) fn marked_order(bytes: &[u8]) -> Option<Order>
     requires { 12 ≤ length bytes.now }
     ensures { result ≡ marked_order bytes.now }

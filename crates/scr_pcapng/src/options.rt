@@ -71,8 +71,6 @@ fn take_option<S: Source>(
 }
 
 // Takes so many bytes of options, and answers the value that tells the unit of times.
-#[cold]
-#[inline(never)]
 fn take_unit<S: Source>(
     source: &mut S,
     order: Order,
@@ -98,7 +96,6 @@ fn take_unit<S: Source>(
 }
 
 // Takes the options of an interface, and answers the value that tells the unit of times; of another block nothing.
-#[inline(always)]
 pub(crate) fn take_options<S: Source>(
     source: &mut S,
     head: &Head,

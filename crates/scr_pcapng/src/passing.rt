@@ -3,12 +3,12 @@ ghost use Rattle.scr_pcap.specs.Records.{CAPTURED};
 ghost use Rattle.std.specs.Io.KnownBytes.{Consumes, IsAtEnd};
 ghost use Rattle.scr_base.specs.Causes.{CountsFault};
 ghost use Rattle.scr_pcap.specs.Taken.{GivesFewer};
-ghost use Rattle.scr_pcapng.specs.Parts.{IsStop, TakesBytes, TakesRest, TakesTail};
+ghost use Rattle.scr_pcapng.specs.Parts.{IsStop, TakesBytes, TakesTail};
 ghost use Rattle.scr_pcapng.specs.State.{faults_counted};
 
 use crate::error::{AnyError, NgError};
 use scr_base::{Failed, Source};
-use scr_pcap::{FrameBuf, LONGEST, Order, fill};
+use scr_pcap::{FrameBuf, Order, fill};
 
 // How many bytes are passed over at once.
 const PIECE: usize = 4096;
@@ -16,12 +16,8 @@ const PIECE: usize = 4096;
 // How many bytes of a block's end are taken at once: a few options and the second total length.
 const SHORT: u32 = 32;
 
-// The most bytes of a packet with which such an end has room.
-const LONGEST_BEFORE: u32 = LONGEST as u32 - SHORT;
-
 // Reads on behind the first `from` bytes of a buffer, until the first `to` are there or the end is met, and answers how
 // many are there.
-#[inline(always)]
 pub(crate) fn fill_on<S: Source>(
     source: &mut S,
     buf: &mut [u8],
@@ -91,7 +87,7 @@ pub(crate) fn pass_over<S: Source>(source: &mut S, size: u32, block: u32) -> Res
 }
 
 // Takes what is left of the block with this number, and answers the number in its last four bytes.
-fn take_tail<S: Source>(
+pub(crate) fn take_tail<S: Source>(
     source: &mut S,
     order: Order,
     size: u32,
@@ -112,8 +108,7 @@ fn take_tail<S: Source>(
 }
 
 // Takes the bytes of a packet in the block with this number, which `frame` then holds.
-#[inline(always)]
-fn take_frame<S: Source>(
+pub(crate) fn take_frame<S: Source>(
     source: &mut S,
     captured: u32,
     frame: &mut FrameBuf,
@@ -130,56 +125,4 @@ fn take_frame<S: Source>(
         return Err(AnyError::Ng(NgError::Cut { block }));
     }
     Ok(())
-}
-
-// The same, and then what is left of the block; answers the number in the last four bytes. Mostly they are few, and are
-// taken together with the packet.
-#[inline(always)]
-pub(crate) fn take_rest<S: Source>(
-    source: &mut S,
-    order: Order,
-    captured: u32,
-    size: u32,
-    frame: &mut FrameBuf,
-    block: u32,
-) -> Result<u32, AnyError>
-    requires some { 4 ≤ size }
-    requires within { captured ≤ CAPTURED }
-    ensures taken { IfOk result (λ told. TakesRest (S.left source.old) (S.left source.new) order size frame.new told) }
-    ensures length { OnOk result (length frame.new ≡ captured) }
-    ensures fewer { OnErr result (GivesFewer (captured + size) (S.left source.old) (S.left source.new)) }
-    ensures stops { IfErr result (IsStop block (S.left source.new)) }
-    ensures counts { S.faults source.new ≡ faults_counted result (S.faults source.old) }
-{
-    if size > SHORT || captured > LONGEST_BEFORE {
-        return take_parts(source, order, captured, size, frame, block);
-    }
-    let whole = captured + size;
-    take_frame(source, whole, frame, block)?;
-    let told = order.u32_at(frame.bytes(), whole as usize - 4);
-    frame.truncate(captured as usize);
-    Ok(told)
-}
-
-// The same, one after the other.
-#[cold]
-#[inline(never)]
-fn take_parts<S: Source>(
-    source: &mut S,
-    order: Order,
-    captured: u32,
-    size: u32,
-    frame: &mut FrameBuf,
-    block: u32,
-) -> Result<u32, AnyError>
-    requires some { 4 ≤ size }
-    requires within { captured ≤ CAPTURED }
-    ensures taken { IfOk result (λ told. TakesRest (S.left source.old) (S.left source.new) order size frame.new told) }
-    ensures length { OnOk result (length frame.new ≡ captured) }
-    ensures fewer { OnErr result (GivesFewer (captured + size) (S.left source.old) (S.left source.new)) }
-    ensures stops { IfErr result (IsStop block (S.left source.new)) }
-    ensures counts { S.faults source.new ≡ faults_counted result (S.faults source.old) }
-{
-    take_frame(source, captured, frame, block)?;
-    take_tail(source, order, size, block)
 }

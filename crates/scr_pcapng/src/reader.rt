@@ -50,7 +50,6 @@ impl Model for BlockReader {
 
 impl BlockReader {
     // The number of the next block, from 1.
-    #[inline(always)]
     pub(crate) fn number(&self) -> u32
         ensures { result ≡ number_of self.now.position }
     {
@@ -78,7 +77,6 @@ impl BlockReader {
     }
 
     // The interface with this number, from 0.
-    #[inline(always)]
     pub(crate) fn interface_at(&self, index: u32) -> Result<InterfaceInfo, NgError>
         ensures there { MatchResult result (λ interface. slice_get self.now.position.interfaces index ≡ Some interface)
             (λ error. (slice_get self.now.position.interfaces index ≡ None) × (error ≡ NgError.Interface (number_of self.now.position))) }
@@ -93,7 +91,6 @@ impl BlockReader {
     }
 
     // The order of a block of this kind, by its first bytes.
-    #[inline(always)]
     pub(crate) fn order_in(&self, kind: Kind, bytes: &[u8]) -> Result<Order, NgError>
         requires { front_of kind ≤ length bytes.now }
         ensures { MatchResult result (λ order. order_in self.now.position kind bytes.now ≡ Some order)
@@ -123,7 +120,6 @@ impl BlockReader {
 }
 
 // How many bytes of a packet follow, where its tests are met.
-#[inline(always)]
 pub(crate) fn captured_of(content: &Result<Content, NgError>) -> u32
     ensures { result ≡ captured_of content.now }
 {

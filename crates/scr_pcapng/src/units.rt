@@ -25,7 +25,6 @@ pub(crate) fn units_of(value: u8) -> u64
 }
 
 // A time of so many units a second, in microseconds.
-#[inline(always)]
 pub(crate) fn microseconds(units: u64, time: u64) -> u64
     requires { 0 < units }
     ensures { result ≡ microseconds units time }
