@@ -1,7 +1,7 @@
-ghost use Rattle.std.specs.Prelude.{◌≡◌, ◌≤◌, ◌<◌, ◌+◌, ◌++◌, ℕ, List, length, true, None, IfOk, slice_get};
+ghost use Rattle.std.specs.Prelude.{◌≡◌, ◌≤◌, ◌<◌, ◌+◌, ℕ, length, true, IfOk, slice_get};
 ghost use Rattle.scr_pcap.specs.Header.{number_at};
 ghost use Rattle.scr_pcapng.specs.Blocks.{head_of, is_total};
-ghost use Rattle.scr_pcapng.specs.Contents.{IsAccepted, IsPlaced, content_by, cut_to, enhanced_on, interface_with, number_of, packet_on, section_in, simple_on};
+ghost use Rattle.scr_pcapng.specs.Contents.{IsAccepted, IsPlaced, content_by, cut_to, enhanced_behind, enhanced_on, interface_with, number_of, packet_on, section_in, simple_on};
 
 use crate::content::{Content, InterfaceInfo};
 use crate::error::NgError;
@@ -97,8 +97,8 @@ impl BlockReader {
     pub(crate) fn enhanced_behind(&self, rest: &[u8], total: u32) -> Result<Content, NgError>
         requires size { 32 ≤ total }
         requires enough { 24 ≤ length rest.now }
-        ensures told { (first : List ℕ) → length first ≡ 8
-            → result ≡ content_by self.now.position Kind.EnhancedPacket self.now.position.order total (first ++ rest.now) None }
+        ensures told { result ≡ enhanced_behind self.now.position total rest.now
+            (slice_get self.now.position.interfaces (number_at self.now.position.order 0 4 rest.now)) }
         ensures placed { IfOk result (IsPlaced 28 total) }
         ensures accepted { IfOk result (IsAccepted self.now.position) }
     {

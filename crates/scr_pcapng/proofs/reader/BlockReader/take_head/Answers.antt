@@ -5,9 +5,9 @@ use Rattle.std.proofs.lemmas.Result.{err_from_is_err_and}
 use Rattle.std.specs.Io.KnownBytes.{Consumes}
 use Rattle.scr_pcapng.specs.declared.error.AnyError.TheVariants.{Ng}
 use Rattle.scr_pcapng.specs.Blocks.{front_of, head_of, is_total, kind_in, kind_of}
-use Rattle.scr_pcapng.specs.State.{BlockReaderState, ahead}
+use Rattle.scr_pcapng.specs.State.{BlockReaderState}
 use Rattle.scr_pcapng.proofs.Heads.{is_total-least}
-use Rattle.scr_pcapng.proofs.HeadsTaken.{IsFaultOf-from, at_most, at_most-then, cut-before_kind, cut-behind_head, cut-behind_kind, cut-in_front, front_of-most, head_of-most, head_of-within, head-told, kind-told, odd, unmarked}
+use Rattle.scr_pcapng.proofs.HeadsTaken.{IsFaultOf-from, at_most, at_most-then, cut-behind_head, cut-behind_kind, cut-in_front, front_of-most, head_of-most, head_of-within, head-told, kind-told, odd, unmarked}
 use Rattle.scr_pcapng.proofs.reader.BlockReader.take_head.Goals as goal
 
 pub returns-in_err-fill_on-clause-few : goal.returns-in_err-fill_on-clause-few
@@ -33,7 +33,7 @@ returns-then-branch-front-clause-faulty g c = λ front begun.
     let is_front = c.front-front.ensures in
     let short = c.if-branch-front.true in
     let some = more.within.0 in
-    IsFaultOf-from position _ _ c.cut-then-branch-front.result _ c.into-then-branch-front.ensures c.cut-then-branch-front.ensures
+    IsFaultOf-from position _ _ c.cut.result _ c.into.ensures c.cut.ensures
     (cut-in_front _ _ _ c.fill_on.new.buf c.in_ok-fill_on.field-0 c.requires taken (more.end short) (omega arith) within_front
     (cut-behind_kind position _ c.in_ok-fill_on.field-0 c.of-kind.result told (omega arith)))
 
