@@ -90,7 +90,9 @@ impl BlockReader {
     {
         let kind = Kind::of(self.order.u32_at(begun, 0));
         let total = self.order.u32_at(begun, 4);
-        let fits = kind == Kind::EnhancedPacket && kind.is_total(total) && total as usize <= LONGEST;
+        let fits = kind == Kind::EnhancedPacket
+            && kind.is_total(total)
+            && total as usize <= LONGEST;
         if fits { Some(total) } else { None }
     }
 

@@ -1,12 +1,11 @@
-use Rattle.std.proofs.Common.{◌≡◌, ◌≢◌, ℕ, ◌+◌, ◌-◌, ◌≤◌, ◌<◌, List, ◌++◌, inl, inr, length, take, drop, Option, None, Ok, refl, sym, ap, ◌∙◌, slice_get, arith}
+use Rattle.std.proofs.Common.{◌≡◌, ℕ, ◌+◌, ◌-◌, ◌≤◌, List, ◌++◌, inl, inr, length, take, drop, None, Ok, refl, sym, ap, ◌∙◌, slice_get, arith}
 use Rattle.std.proofs.lemmas.Grind.{common_steps}
 use Rattle.std.proofs.lemmas.List.{length-append, length-drop, length-take-le}
 use Rattle.std.proofs.lemmas.Result.{err_from_is_err_and}
-use Rattle.scr_pcap.specs.declared.format.Order.{Order}
 use Rattle.scr_pcap.specs.Header.{number_at}
 use Rattle.scr_pcap.proofs.Taking.{Consumes-then}
 use Rattle.scr_pcapng.specs.declared.kind.Kind.TheVariants.{EnhancedPacket}
-use Rattle.scr_pcapng.specs.Contents.{captured_by, content_by, enhanced_behind}
+use Rattle.scr_pcapng.specs.Contents.{content_by, enhanced_behind}
 use Rattle.scr_pcapng.specs.State.{BlockReaderState, LONGEST_BLOCK}
 use Rattle.scr_pcapng.proofs.Heads.{is_total-least}
 use Rattle.scr_pcapng.proofs.HeadsTaken.{IsFaultOf-from, at_most-then, cut-behind_head, enhanced-head}
