@@ -1,4 +1,5 @@
 pub mod Taking
+pub mod Parts
 pub mod FirstBytes
 pub mod Front
 pub mod Faults

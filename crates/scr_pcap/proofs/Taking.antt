@@ -42,3 +42,11 @@ pub fewer_ahead_on_err : {T E : Type 0} (result : Result T E) (first : List ℕ)
     → length first + size ≤ more → OnErr result (GivesFewer more (prepend_known first old) new)
 fewer_ahead_on_err (Ok value) first size more old new fewer within = tt
 fewer_ahead_on_err (Err fault) first size more old new fewer within = GivesFewer-ahead first size more old new fewer within
+
+pub fewer_behind_on_err : {T E : Type 0} (result : Result T E) (first : List ℕ) (size more : ℕ) (old mid new : Option (List ℕ)) → Consumes old mid first
+    → OnErr result (GivesFewer size mid new) → length first + size ≤ more → OnErr result (GivesFewer more old new)
+fewer_behind_on_err (Ok value) first size more old mid new taken fewer within = tt
+fewer_behind_on_err (Err fault) first size more old mid new taken fewer within =
+    let count = length-append first fewer.front in
+    let few = fewer.within in
+    record { front = first ++ fewer.front; given = Consumes-then old mid new first fewer.front taken fewer.given; within = omega arith }

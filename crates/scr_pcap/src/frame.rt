@@ -1,4 +1,4 @@
-ghost use Rattle.std.specs.Prelude.{◌≡◌, ◌≤◌, ◌<◌, ℕ, List, [], length, take, vec_len, IfOk, OnErr};
+ghost use Rattle.std.specs.Prelude.{◌≡◌, ◌≤◌, ◌<◌, ◌+◌, ℕ, List, [], length, take, drop, slice_range, vec_len, IfOk, OnErr};
 ghost use Rattle.std.specs.Io.KnownBytes.{Consumes, IsAtEnd};
 ghost use Rattle.scr_base.specs.Causes.{CountsFault};
 ghost use Rattle.scr_pcap.specs.Taken.{GivesFewer};
@@ -16,15 +16,16 @@ pub const LONGEST: usize = 262_144;
 #[derive(Drop)]
 pub struct FrameBuf {
     room: Vec<u8>,
-    filled: usize,
+    start: usize,
+    end: usize,
 }
 
 impl Model for FrameBuf {
     ghost Value = { List ℕ };
 
-    ghost view = { λ frame. take frame.filled frame.room.items };
+    ghost view = { λ frame. slice_range frame.room.items frame.start frame.end };
 
-    ghost invariant = { λ frame. (vec_len frame.room ≡ LONGEST) × (frame.filled ≤ LONGEST) };
+    ghost invariant = { λ frame. (vec_len frame.room ≡ LONGEST) × (frame.start ≤ frame.end) × (frame.end ≤ LONGEST) };
 }
 
 impl FrameBuf {
@@ -33,7 +34,11 @@ impl FrameBuf {
         ensures { IfOk result (λ frame. frame ≡ []) }
     {
         let room = vec![in alloc; 0u8; LONGEST]?;
-        Ok(FrameBuf { room, filled: 0 })
+        Ok(FrameBuf {
+            room,
+            start: 0,
+            end: 0,
+        })
     }
 
     /// The bytes of the last frame.
@@ -41,10 +46,11 @@ impl FrameBuf {
         ensures bytes { result.now ≡ self.now }
         ensures within { length self.now ≤ LONGEST }
     {
-        &self.room[..self.filled]
+        &self.room[self.start..self.end]
     }
 
     /// Takes a frame of this size, or as much of it as stands before the end, and answers how many bytes that was.
+    #[inline(always)]
     pub fn fill<S: Source>(&mut self, source: &mut S, size: usize) -> Result<usize, Failed>
         requires { size ≤ LONGEST }
         ensures within { IfOk result (λ count. count ≤ size) }
@@ -54,14 +60,26 @@ impl FrameBuf {
         ensures fewer { OnErr result (GivesFewer size (S.left source.old) (S.left source.new)) }
         ensures cause { CountsFault S.faults source.old source.new result }
     {
-        self.filled = 0;
+        self.start = 0;
+        self.end = 0;
         let count = fill_front(source, &mut self.room, size)?;
-        self.filled = count;
+        self.end = count;
         Ok(count)
+    }
+
+    /// Keeps so many of its bytes from a place on, and lets the others go.
+    #[inline(always)]
+    pub fn keep(&mut self, place: usize, size: usize)
+        requires { place + size ≤ length self.old }
+        ensures { self.new ≡ take size (drop place self.old) }
+    {
+        self.start += place;
+        self.end = self.start + size;
     }
 }
 
 // Fills the first `size` bytes of the room, as `fill` does.
+#[inline(always)]
 fn fill_front<S: Source>(source: &mut S, room: &mut [u8], size: usize) -> Result<usize, Failed>
     requires { size ≤ length room.old }
     ensures within { IfOk result (λ count. count ≤ size) }

@@ -2,7 +2,7 @@
 use Rattle.std.specs.Prelude.{⊤}
 use Rattle.std.proofs.Common.{◌≡◌, ◌≢◌, ◌⊎◌, inl, inr, ◌∷◌, ℕ, ◌+◌, ◌-◌, ◌*◌, ◌^◌, ◌≤◌, Bool, true, false, not, List, [], ◌++◌, length, take, drop, Option, Some, None, Result, Ok, Err, IfSome, IfOk, ◌==◌, slice_get, if◌then◌else◌, refl, sym, ap, subst, ◌∙◌, arith}
 use Rattle.std.proofs.lemmas.Bool.{eq-eqb, ne_eqb}
-use Rattle.std.proofs.lemmas.List.{append-nil, drop_at, length-append, length-take-le, take-append-drop, take_at}
+use Rattle.std.proofs.lemmas.List.{append-nil, drop-drop, drop_at, length-append, length-take-le, take-append-drop, take_at}
 use Rattle.std.specs.Io.KnownBytes.{Consumes}
 use Rattle.scr_pcap.specs.declared.format.Order.{Order}
 use Rattle.scr_pcap.specs.Header.{number_at}
@@ -18,7 +18,7 @@ use Rattle.scr_pcapng.specs.declared.error.NgError.{NgError}
 use Rattle.scr_pcapng.specs.declared.error.NgError.TheVariants.{Cut, Length, Resolution, Version}
 use Rattle.scr_pcapng.specs.declared.kind.Kind.{Kind}
 use Rattle.scr_pcapng.specs.declared.kind.Kind.TheVariants.{SectionHeader, InterfaceDescription, SimplePacket, EnhancedPacket, Other}
-use Rattle.scr_pcapng.specs.Contents.{IsPlaced, Position, captured_by, content_by, content_in, cut_to, enhanced_on, interface_with, number_of, option_bytes, packet_on, records_in, records_with, simple_on}
+use Rattle.scr_pcapng.specs.Contents.{IsPlaced, Position, captured_by, content_by, content_in, cut_to, enhanced_behind, enhanced_on, interface_with, number_of, option_bytes, packet_on, records_in, records_with, simple_on}
 use Rattle.scr_pcapng.specs.Blocks.{block_in, closed, head_of, is_total, sized, told_by}
 use Rattle.scr_pcapng.specs.Options.{unit_in}
 use Rattle.scr_pcapng.specs.Parts.{HasGivenHead, IsFaultOf, IsHead, IsStop, TakesBlock, TakesOptions, TakesTail, captured_of, options_size}
@@ -131,7 +131,7 @@ captured-none (Ok (Packet time place captured)) none = absurd none
 captured-none (Ok Passed) none = refl
 captured-none (Err fault) none = refl
 
-captured-placed : (content : Result Content NgError) (size total : ℕ) → IfOk content (IsPlaced size total) → (captured_of content ≡ 0) ⊎ (size + captured_of content + 4 ≤ total)
+pub captured-placed : (content : Result Content NgError) (size total : ℕ) → IfOk content (IsPlaced size total) → (captured_of content ≡ 0) ⊎ (size + captured_of content + 4 ≤ total)
 captured-placed (Ok (NewSection order)) size total placed = inl refl
 captured-placed (Ok (NewInterface interface)) size total placed = inl refl
 captured-placed (Ok (Packet time place captured)) size total placed = inr placed.2
@@ -334,3 +334,53 @@ pub block-few : (position : Position) (front new : Option (List ℕ)) (kind : Ki
 block-few position front new kind order total head unit second frame given =
     let all = given.all in
     record { front = given.block; given = given.taken; within = omega arith }
+
+-- the same of an enhanced packet that was taken at once behind its total length
+pub HasGivenBlock-whole : (position : Position) (front mid new : Option (List ℕ)) (order : Order) (total : ℕ) (begun rest frame : List ℕ) (second captured : ℕ)
+    → Consumes front mid (take 8 begun) → 8 ≤ length begun → IfSome front (λ bytes. IsHead position bytes EnhancedPacket order total)
+    → Consumes mid new rest → length rest + 8 ≡ total → 4 ≤ length rest → second ≡ number_at order (length rest - 4) 4 rest
+    → frame ≡ take captured (drop 20 rest) → length frame ≡ captured
+    → HasGivenBlock position front new EnhancedPacket order total (take 8 begun ++ rest) None second frame
+HasGivenBlock-whole position front mid new order total begun rest frame second captured first eight head taken sum enough number part size =
+    let start = take 8 begun in
+    let start_all = length-take-le 8 begun eight in
+    let block = start ++ rest in
+    let count = length-append start rest in
+    let all : length block ≡ total = omega arith in
+    let place : length block - 4 ≡ length start + (length rest - 4) = omega arith in
+    let behind : drop 28 block ≡ drop 20 rest =
+    sym (drop-drop 20 8 block) ∙ ap (drop 20) (drop_at start rest 8 start_all) in
+    record {
+      block = block;
+      taken = Consumes-then front mid new start rest first taken;
+      all = all;
+      is = head;
+      same = ap (λ (n : ℕ). content_by position EnhancedPacket order n block (unit_in order (option_bytes block))) all
+          ∙ unit_counts position EnhancedPacket order total block (unit_in order (option_bytes block)) None (λ is. absurd (cc));
+      ends = number ∙ sym (ap (λ (n : ℕ). number_at order n 4 block) place ∙ number_at-behind order 4 (length rest - 4) start rest);
+      placed = λ none. ap (take (length frame)) behind ∙ ap (λ (n : ℕ). take n (drop 20 rest)) size ∙ sym part;
+    }
+
+-- what an enhanced packet tells, by the bytes behind its total length
+number_behind : (order : Order) (place : ℕ) (first rest : List ℕ) → length first ≡ 8 → number_at order (8 + place) 4 (first ++ rest) ≡ number_at order place 4 rest
+number_behind order place first rest eight =
+    ap (λ (n : ℕ). number_at order (n + place) 4 (first ++ rest)) (sym eight) ∙ number_at-behind order 4 place first rest
+
+enhanced-numbers : (position : Position) (total : ℕ) (first rest : List ℕ) (interface : Option InterfaceInfo) → length first ≡ 8
+    → enhanced_on position position.order total (first ++ rest) interface ≡ enhanced_behind position total rest interface
+enhanced-numbers position total first rest None eight = refl
+enhanced-numbers position total first rest (Some interface) eight =
+    let order = position.order in
+    let block = first ++ rest in
+    let with : ℕ → ℕ → ℕ → Result Content NgError = λ h l c. packet_on position interface (microseconds interface.units (h * 2 ^ 32 + l)) c 28 (total - 32) in
+    ap (λ (h : ℕ). with h (number_at order 16 4 block) (number_at order 20 4 block)) (number_behind order 4 first rest eight)
+    ∙ ap (λ (l : ℕ). with (number_at order 4 4 rest) l (number_at order 20 4 block)) (number_behind order 8 first rest eight)
+    ∙ ap (with (number_at order 4 4 rest) (number_at order 8 4 rest)) (number_behind order 12 first rest eight)
+
+pub enhanced-told : (position : Position) (total : ℕ) (first rest : List ℕ) → length first ≡ 8
+    → content_by position EnhancedPacket position.order total (first ++ rest) None
+    ≡ enhanced_behind position total rest (slice_get position.interfaces (number_at position.order 0 4 rest))
+unfolding content_by
+enhanced-told position total first rest eight =
+    ap (λ (n : ℕ). enhanced_on position position.order total (first ++ rest) (slice_get position.interfaces n)) (number_behind position.order 0 first rest eight)
+    ∙ enhanced-numbers position total first rest (slice_get position.interfaces (number_at position.order 0 4 rest)) eight

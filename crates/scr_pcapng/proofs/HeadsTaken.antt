@@ -202,3 +202,11 @@ head_of-within InterfaceDescription = omega arith
 head_of-within SimplePacket = omega arith
 head_of-within EnhancedPacket = omega arith
 head_of-within Other = omega arith
+
+-- the eight bytes in front of an enhanced packet
+pub enhanced-head : (position : Position) (front new : Option (List ℕ)) (begun : List ℕ) (total : ℕ) → position.blocks ≢ BLOCKS
+    → Consumes front new (take 8 begun) → 8 ≤ length begun → kind_in position begun ≡ EnhancedPacket → total ≡ total_in position.order begun
+    → IfSome front (λ bytes. IsHead position bytes EnhancedPacket position.order total)
+enhanced-head position front new begun total few taken eight kind told =
+    head-told position front new begun 8 EnhancedPacket position.order total few taken refl eight
+    (kind-told position front new begun 8 EnhancedPacket taken (omega arith) eight (sym kind)) refl told

@@ -9,3 +9,4 @@ pub mod Joining
 pub mod OneReading
 pub mod SomeReading
 pub mod UnitOptions
+pub mod Times

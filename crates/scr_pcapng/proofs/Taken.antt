@@ -6,7 +6,7 @@ use Rattle.std.specs.Io.KnownBytes.{Consumes, prepend_known}
 use Rattle.scr_pcap.specs.declared.format.Order.{Order}
 use Rattle.scr_pcap.specs.Header.{number, number_at}
 use Rattle.scr_pcap.proofs.Taking.{Consumes-none, Consumes-then, GivesFewer-ahead}
-use Rattle.scr_pcap.specs.Taken.{GivesFewer}
+use Rattle.scr_pcap.specs.Taken.{GivesAtMost, GivesFewer}
 use Rattle.scr_pcapng.specs.Parts.{TakesBytes, TakesTail}
 
 pub TakesBytes-none : (left : Option (List ℕ)) (size : ℕ) → size ≡ 0 → TakesBytes left left size
@@ -67,3 +67,9 @@ pub fewer-ahead : {T E : Type 0} (result : Result T E) (first : List ℕ) (size 
     → length first + size ≤ more → OnErr result (GivesFewer more (prepend_known first old) new)
 fewer-ahead (Ok value) first size more old new fewer within = tt
 fewer-ahead (Err fault) first size more old new fewer within = GivesFewer-ahead first size more old new fewer within
+
+-- no more than another bound
+pub GivesAtMost-more : (old new : Option (List ℕ)) (size more : ℕ) → GivesAtMost size old new → size ≤ more → GivesAtMost more old new
+GivesAtMost-more old new size more most within =
+    let few = most.within in
+    record { front = most.front; given = most.given; within = omega arith }

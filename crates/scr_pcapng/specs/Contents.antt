@@ -70,6 +70,13 @@ enhanced_on position order size block None = Err (Interface (number_of position)
 enhanced_on position order size block (Some interface) =
     packet_on position interface (microseconds interface.units (time_in order block)) (number_at order 20 4 block) 28 (size - 32)
 
+-- the same, by the bytes behind the total length
+abbrev pub enhanced_behind : Position → (size : ℕ) → (rest : List ℕ) → Option InterfaceInfo → Result Content NgError
+enhanced_behind position size rest None = Err (Interface (number_of position))
+enhanced_behind position size rest (Some interface) =
+    packet_on position interface (microseconds interface.units (number_at position.order 4 4 rest * 2 ^ 32 + number_at position.order 8 4 rest))
+    (number_at position.order 12 4 rest) 28 (size - 32)
+
 -- what a block of this size tells, by its first bytes and, of an interface, by the value that tells its unit; or the first
 -- test of its content that fails
 unfoldable pub content_by : Position → Kind → Order → (size : ℕ) → List ℕ → (unit : Option ℕ) → Result Content NgError

@@ -1,3 +1,6 @@
+ghost use Rattle.std.specs.Prelude.{◌≡◌};
+ghost use Rattle.scr_pcapng.specs.Contents.{captured_by};
+
 use scr_pcap::Order;
 
 /// An interface of a section.
@@ -26,4 +29,17 @@ pub enum Content {
     },
     /// Nothing that is read.
     Passed,
+}
+
+impl Content {
+    // How many bytes a packet has.
+    #[inline(always)]
+    pub(crate) fn captured(self) -> u32
+        ensures { result ≡ captured_by self }
+    {
+        match self {
+            Content::Packet { captured, .. } => captured,
+            _ => 0,
+        }
+    }
 }

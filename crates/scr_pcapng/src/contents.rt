@@ -1,7 +1,7 @@
 ghost use Rattle.std.specs.Prelude.{◌≡◌, ◌≤◌, ◌<◌, ◌+◌, ℕ, length, true, IfOk, slice_get};
 ghost use Rattle.scr_pcap.specs.Header.{number_at};
 ghost use Rattle.scr_pcapng.specs.Blocks.{head_of, is_total};
-ghost use Rattle.scr_pcapng.specs.Contents.{IsAccepted, IsPlaced, content_by, cut_to, enhanced_on, interface_with, number_of, packet_on, section_in, simple_on};
+ghost use Rattle.scr_pcapng.specs.Contents.{IsAccepted, IsPlaced, content_by, cut_to, enhanced_behind, enhanced_on, interface_with, number_of, packet_on, section_in, simple_on};
 
 use crate::content::{Content, InterfaceInfo};
 use crate::error::NgError;
@@ -92,6 +92,30 @@ impl BlockReader {
         self.packet_on(interface, 0, captured, 12, head.total - 16)
     }
 
+    // An enhanced packet, by the bytes of its block behind the total length.
+    #[inline(always)]
+    pub(crate) fn enhanced_behind(&self, rest: &[u8], total: u32) -> Result<Content, NgError>
+        requires size { 32 ≤ total }
+        requires enough { 24 ≤ length rest.now }
+        ensures told { result ≡ enhanced_behind self.now.position total rest.now
+            (slice_get self.now.position.interfaces (number_at self.now.position.order 0 4 rest.now)) }
+        ensures placed { IfOk result (IsPlaced 28 total) }
+        ensures accepted { IfOk result (IsAccepted self.now.position) }
+    {
+        let interface = self.interface_at(self.order.u32_at(rest, 0))?;
+        let high = self.order.u32_at(rest, 4);
+        let low = self.order.u32_at(rest, 8);
+        let time = (u64::from(high) << 32) + u64::from(low);
+        let captured = self.order.u32_at(rest, 12);
+        self.packet_on(
+            interface,
+            microseconds(interface.units, time),
+            captured,
+            28,
+            total - 32,
+        )
+    }
+
     fn enhanced(&self, head: &Head) -> Result<Content, NgError>
         requires size { 32 ≤ head.now.total }
         ensures told { result ≡ enhanced_on self.now.position head.now.order head.now.total head.now.bytes
@@ -114,6 +138,7 @@ impl BlockReader {
     }
 
     // A packet of this interface, with room for so many bytes from a place on.
+    #[inline(always)]
     #[tactic(auto, unfolding(crate::specs::Contents::packet_on))]
     fn packet_on(
         &self,

@@ -1,4 +1,4 @@
-ghost use Rattle.std.specs.Prelude.{◌≡◌, ◌≢◌, ◌≤◌, ◌<◌, true, length, take, Ok, IfOk, IfSome, OnErr};
+ghost use Rattle.std.specs.Prelude.{◌≡◌, ◌≢◌, ◌≤◌, ◌<◌, ℕ, List, true, length, take, Option, IfOk, OnErr};
 ghost use Rattle.std.specs.Io.KnownBytes.{Consumes, IsAtEnd, prepend_known};
 ghost use Rattle.scr_base.specs.Causes.{CountsFault};
 ghost use Rattle.scr_pcap.specs.Taken.{GivesAtMost, GivesFewer};
@@ -15,29 +15,24 @@ use crate::reader::{BlockReader, FIRST};
 use scr_base::{Failed, Source};
 
 // How many bytes tell a block's type and total length.
-const FRONT: usize = 8;
+pub(crate) const FRONT: usize = 8;
 
 impl BlockReader {
-    // Takes what stands in front of the next block; `None` at the end.
-    #[inline(always)]
-    pub(crate) fn take_head<S: Source>(&self, source: &mut S) -> Result<Option<Head>, AnyError>
+    // Takes what stands in front of a block, whose type and total length were taken: those in `begun`.
+    pub(crate) fn take_head<S: Source>(
+        &self,
+        source: &mut S,
+        begun: [u8; LONGEST_HEAD],
+    ) -> Result<Head, AnyError>
         requires { self.now.position.blocks ≢ BLOCKS }
-        ensures given { IfOk result (λ next. IfSome next (λ head.
-            HasGivenHead self.now.position (ahead self.now.position (S.left source.old)) (S.left source.new) head.kind head.order head.total head.bytes)) }
-        ensures total { IfOk result (λ next. IfSome next (λ head. is_total head.kind head.total ≡ true)) }
-        ensures end { result ≡ Ok None → IsAtEnd (ahead self.now.position (S.left source.old)) × IsAtEnd (S.left source.new) }
-        ensures faulty { IsFaultAt self.now.position (ahead self.now.position (S.left source.old)) result }
-        ensures few { GivesAtMost LONGEST_HEAD (ahead self.now.position (S.left source.old)) (S.left source.new) }
+        ensures given { IfOk result (λ head. (front : Option (List ℕ)) → Consumes front (S.left source.old) (take 8 begun)
+            → HasGivenHead self.now.position front (S.left source.new) head.kind head.order head.total head.bytes) }
+        ensures total { IfOk result (λ head. is_total head.kind head.total ≡ true) }
+        ensures faulty { (front : Option (List ℕ)) → Consumes front (S.left source.old) (take 8 begun) → IsFaultAt self.now.position front result }
+        ensures few { (front : Option (List ℕ)) → Consumes front (S.left source.old) (take 8 begun) → GivesAtMost LONGEST_HEAD front (S.left source.new) }
         ensures counts { S.faults source.new ≡ faults_counted result (S.faults source.old) }
     {
-        let mut bytes = [0; LONGEST_HEAD];
-        let count = self.take_front(source, &mut bytes)?;
-        if count == 0 {
-            return Ok(None);
-        }
-        if count < FRONT {
-            return Err(self.cut().into());
-        }
+        let mut bytes = begun;
         let kind = Kind::of(self.order.u32_at(&bytes, 0));
         let front = kind.front();
         if fill_on(source, &mut bytes, FRONT, front)? < front {
@@ -52,12 +47,12 @@ impl BlockReader {
         if fill_on(source, &mut bytes, front, size)? < size {
             return Err(self.cut().into());
         }
-        Ok(Some(Head {
+        Ok(Head {
             kind,
             order,
             total,
             bytes,
-        }))
+        })
     }
 
     // Takes a block's type and total length, as far as they are there. Those of the first block were begun ahead.

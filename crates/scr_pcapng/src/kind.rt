@@ -14,6 +14,7 @@ pub(crate) enum Kind {
 
 impl Kind {
     // The kind of a block with this type.
+    #[inline(always)]
     pub(crate) fn of(number: u32) -> Self
         ensures { result ≡ kind_of number }
     {
@@ -27,6 +28,7 @@ impl Kind {
     }
 
     // The least total length, in bytes.
+    #[inline(always)]
     pub(crate) fn least(self) -> u32
         ensures { result ≡ least self }
     {
@@ -50,6 +52,7 @@ impl Kind {
     }
 
     // Whether a block can have this total length.
+    #[inline(always)]
     pub(crate) fn is_total(self, total: u32) -> bool
         ensures { result ≡ is_total self total }
     {

@@ -1,26 +1,30 @@
-ghost use Rattle.std.specs.Prelude.{◌≡◌, ◌≢◌, ◌≤◌, ◌<◌, ◌+◌, ℕ, List, true, length, Option, Some, None, Ok, IfOk, IfErr, IfSome, OnErr};
-ghost use Rattle.std.specs.Io.KnownBytes.{IsAtEnd};
-ghost use Rattle.scr_pcap.specs.Records.{RECORDS};
+ghost use Rattle.std.specs.Prelude.{◌≡◌, ◌≢◌, ◌≤◌, ◌<◌, ◌+◌, ℕ, List, true, length, take, Option, Some, None, Ok, IfOk, IfErr, IfSome, OnErr};
+ghost use Rattle.std.specs.Io.KnownBytes.{Consumes, IsAtEnd};
+ghost use Rattle.scr_pcap.specs.Records.{CAPTURED, RECORDS};
 ghost use Rattle.scr_pcap.specs.Taken.{GivesAtMost};
-ghost use Rattle.scr_pcapng.specs.Blocks.{BLOCKS, is_total};
+ghost use Rattle.scr_pcapng.specs.Blocks.{BLOCKS, is_total, kind_in, total_in};
 ghost use Rattle.scr_pcapng.specs.Contents.{IsAccepted, captured_by, position_behind};
 ghost use Rattle.scr_pcapng.specs.Parts.{HasGivenHead, IsFaultAt, TakesBlock};
-ghost use Rattle.scr_pcapng.specs.State.{Answers, IsBlockCause, IsCounted, ahead, answer_of, faults_counted, left_of, most_of_block, progress_behind, reach, rest_in_blocks};
+ghost use Rattle.scr_pcapng.specs.State.{Answers, LONGEST_BLOCK, IsBlockCause, IsCounted, ahead, answer_of, faults_counted, left_of, most_of_block, progress_behind, reach, rest_in_blocks};
 ghost use Rattle.scr_pcapng.specs.Steps.{Steps, answer_with, info_in};
 
 use crate::content::Content;
 use crate::error::{AnyError, NgError};
-use crate::head::Head;
+use crate::head::{Head, LONGEST_HEAD};
+use crate::heading::FRONT;
+use crate::kind::Kind;
 use crate::options::take_options;
 use crate::passing::{take_frame, take_tail};
 use crate::progress::Progress;
 use crate::reader::{BLOCKS, BlockReader, captured_of};
 use scr_base::{OutOfMemory, Source};
-use scr_pcap::{FrameBuf, RecordInfo, fill};
+use scr_pcap::{FrameBuf, LONGEST, RecordInfo, fill};
+
+// How many bytes stand between the total length of an enhanced packet and its own bytes.
+const FIELDS: usize = 20;
 
 impl BlockReader {
     // Takes what follows the head of a block, and answers what the block tells, or its fault.
-    #[inline(always)]
     fn take_body<S: Source>(
         &self,
         source: &mut S,
@@ -54,7 +58,103 @@ impl BlockReader {
         Ok(content?)
     }
 
+    // Takes what follows the type and the total length of a block, and answers what the block tells, or its fault.
+    #[inline(always)]
+    fn take_behind<S: Source>(
+        &self,
+        source: &mut S,
+        begun: [u8; LONGEST_HEAD],
+        frame: &mut FrameBuf,
+    ) -> Result<Content, AnyError>
+        requires { self.now.position.blocks ≢ BLOCKS }
+        ensures taken { IfOk result (λ content. (front : Option (List ℕ)) → Consumes front (S.left source.old) (take 8 begun)
+            → TakesBlock self.now.position front (S.left source.new) content frame.new) }
+        ensures faulty { (front : Option (List ℕ)) → Consumes front (S.left source.old) (take 8 begun) → IsFaultAt self.now.position front result }
+        ensures length { IfOk result (λ content. captured_by content ≡ length frame.new) }
+        ensures accepted { IfOk result (IsAccepted self.now.position) }
+        ensures few { (front : Option (List ℕ)) → Consumes front (S.left source.old) (take 8 begun) → GivesAtMost LONGEST_BLOCK front (S.left source.new) }
+        ensures counts { S.faults source.new ≡ faults_counted result (S.faults source.old) }
+    {
+        match self.packet_total(&begun) {
+            Some(total) => Ok(self.take_enhanced(source, begun, total, frame)?),
+            None => Ok(self.take_other(source, begun, frame)?),
+        }
+    }
+
+    // The total length of an enhanced packet whose block has room in a frame, by the bytes in front.
+    #[inline(always)]
+    fn packet_total(&self, begun: &[u8]) -> Option<u32>
+        requires { 8 ≤ length begun.now }
+        ensures { IfSome result (λ total. (kind_in self.now.position begun.now ≡ Kind.EnhancedPacket) × (total ≡ total_in self.now.position.order begun.now)
+            × (is_total Kind.EnhancedPacket total ≡ true) × (total ≤ CAPTURED)) }
+    {
+        let kind = Kind::of(self.order.u32_at(begun, 0));
+        let total = self.order.u32_at(begun, 4);
+        let fits = kind == Kind::EnhancedPacket
+            && kind.is_total(total)
+            && total as usize <= LONGEST;
+        if fits { Some(total) } else { None }
+    }
+
+    // Takes what follows of an enhanced packet at once. What it tells stands there from the interface on.
+    #[inline(always)]
+    fn take_enhanced<S: Source>(
+        &self,
+        source: &mut S,
+        begun: [u8; LONGEST_HEAD],
+        total: u32,
+        frame: &mut FrameBuf,
+    ) -> Result<Content, AnyError>
+        requires some { self.now.position.blocks ≢ BLOCKS }
+        requires kind { kind_in self.now.position begun ≡ Kind.EnhancedPacket }
+        requires told { total ≡ total_in self.now.position.order begun }
+        requires is { is_total Kind.EnhancedPacket total ≡ true }
+        requires room { total ≤ CAPTURED }
+        ensures taken { IfOk result (λ content. (front : Option (List ℕ)) → Consumes front (S.left source.old) (take 8 begun)
+            → TakesBlock self.now.position front (S.left source.new) content frame.new) }
+        ensures faulty { (front : Option (List ℕ)) → Consumes front (S.left source.old) (take 8 begun) → IsFaultAt self.now.position front result }
+        ensures length { IfOk result (λ content. captured_by content ≡ length frame.new) }
+        ensures accepted { IfOk result (IsAccepted self.now.position) }
+        ensures few { (front : Option (List ℕ)) → Consumes front (S.left source.old) (take 8 begun) → GivesAtMost LONGEST_BLOCK front (S.left source.new) }
+        ensures counts { S.faults source.new ≡ faults_counted result (S.faults source.old) }
+    {
+        let size = total as usize - FRONT;
+        if frame.fill(source, size)? < size {
+            return Err(self.cut().into());
+        }
+        let rest = frame.bytes();
+        if self.order.u32_at(rest, size - 4) != total {
+            return Err(self.length().into());
+        }
+        let content = self.enhanced_behind(rest, total)?;
+        frame.keep(FIELDS, content.captured() as usize);
+        Ok(content)
+    }
+
+    // Takes what follows of another block, part by part.
+    #[cold]
+    #[inline(never)]
+    fn take_other<S: Source>(
+        &self,
+        source: &mut S,
+        begun: [u8; LONGEST_HEAD],
+        frame: &mut FrameBuf,
+    ) -> Result<Content, AnyError>
+        requires { self.now.position.blocks ≢ BLOCKS }
+        ensures taken { IfOk result (λ content. (front : Option (List ℕ)) → Consumes front (S.left source.old) (take 8 begun)
+            → TakesBlock self.now.position front (S.left source.new) content frame.new) }
+        ensures faulty { (front : Option (List ℕ)) → Consumes front (S.left source.old) (take 8 begun) → IsFaultAt self.now.position front result }
+        ensures length { IfOk result (λ content. captured_by content ≡ length frame.new) }
+        ensures accepted { IfOk result (IsAccepted self.now.position) }
+        ensures few { (front : Option (List ℕ)) → Consumes front (S.left source.old) (take 8 begun) → GivesAtMost LONGEST_BLOCK front (S.left source.new) }
+        ensures counts { S.faults source.new ≡ faults_counted result (S.faults source.old) }
+    {
+        let head = self.take_head(source, begun)?;
+        self.take_body(source, &head, frame)
+    }
+
     // Goes behind a block.
+    #[inline(always)]
     fn accept(&mut self, content: Content) -> Result<(), OutOfMemory>
         requires few { self.old.position.blocks < BLOCKS }
         requires accepted { IsAccepted self.old.position content }
@@ -95,10 +195,15 @@ impl BlockReader {
         if self.blocks == BLOCKS {
             return self.take_end(source);
         }
-        let Some(head) = self.take_head(source)? else {
+        let mut begun = [0; LONGEST_HEAD];
+        let count = self.take_front(source, &mut begun)?;
+        if count == 0 {
             return Ok(None);
-        };
-        let content = self.take_body(source, &head, frame)?;
+        }
+        if count < FRONT {
+            return Err(self.cut().into());
+        }
+        let content = self.take_behind(source, begun, frame)?;
         self.accept(content)?;
         Ok(Some(content))
     }
@@ -122,6 +227,7 @@ impl BlockReader {
     }
 
     // The packet in a block that was taken, if it is one.
+    #[inline(always)]
     fn packet(&self, content: Content) -> Option<RecordInfo>
         ensures { result ≡ info_in self.now.position.packets content }
     {
@@ -156,6 +262,7 @@ impl BlockReader {
     }
 
     // Takes blocks up to the next packet, whose bytes `frame` then holds; `None` at the end or at an error.
+    #[inline(always)]
     fn take_packet<S: Source>(&mut self, source: &mut S, frame: &mut FrameBuf) -> Option<RecordInfo>
         requires { self.old.progress ≡ Progress.Reading }
         ensures steps { Steps self.old (S.left source.old) (S.faults source.old) self.new (S.left source.new) (S.faults source.new) frame.new result }

@@ -1,19 +1,14 @@
-use Rattle.std.proofs.Common.{◌≤◌, ◌∙◌, length, subst, sym, arith}
+use Rattle.std.proofs.Common.{◌≡◌, ◌≤◌, ◌-◌, length, take, arith}
 use Rattle.std.proofs.lemmas.Grind.{common_steps}
-use Rattle.std.specs.Io.KnownBytes.{Consumes}
-use Rattle.scr_pcap.proofs.Taking.{Consumes-then, take-put_mid_front}
+use Rattle.std.proofs.lemmas.List.{length-take-le}
+use Rattle.scr_pcap.proofs.Taking.{fewer_behind_on_err}
 use Rattle.scr_pcap.proofs.filling.fill.Goals as goal
 
-pub loop-count-preserved : goal.loop-count-preserved
-loop-count-preserved g c =
-    let source = g.S.Source in
-    let more = c.in_ok-more.ensures in
-    let kept = c.read.auto.buf in
-    let within : c.loop-count.count ≤ length c.loop-count.buf = omega arith in
-    let enough : c.in_ok-more.more ≤ length c.read.new.buf = grind (arith, common_steps) in
-    let front = take-put_mid_front c.loop-count.count _ c.in_ok-more.more c.loop-count.buf c.read.new.buf within enough in (
-      grind (arith, common_steps),
-      subst (Consumes (source.left c.args.source.now) (source.left c.read.new.self)) (sym front)
-          (Consumes-then _ _ _ _ _ c.loop-count.invariant.1 more.bytes.0),
-      more.cause.ok ∙ c.loop-count.invariant.2,
-    )
+pub returns-clause-fewer : goal.returns-clause-fewer
+returns-clause-fewer g c =
+    let count = c.in_ok-count.count in
+    let buf = c.read.new.buf in
+    let same : length buf ≡ length c.args.buf.now = grind (arith, common_steps) in
+    let within : count ≤ length buf = grind (arith, common_steps) in
+    let all : length (take count buf) ≡ count = length-take-le count buf within in
+    fewer_behind_on_err c.fill_rest.result (take count buf) (length buf - count) (length c.args.buf.now) _ _ _ c.in_ok-count.ensures.bytes.0 c.fill_rest.ensures.fewer (omega arith)

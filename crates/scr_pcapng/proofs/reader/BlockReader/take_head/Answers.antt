@@ -5,73 +5,48 @@ use Rattle.std.proofs.lemmas.Result.{err_from_is_err_and}
 use Rattle.std.specs.Io.KnownBytes.{Consumes}
 use Rattle.scr_pcapng.specs.declared.error.AnyError.TheVariants.{Ng}
 use Rattle.scr_pcapng.specs.Blocks.{front_of, head_of, is_total, kind_in, kind_of}
-use Rattle.scr_pcapng.specs.State.{BlockReaderState, ahead}
+use Rattle.scr_pcapng.specs.State.{BlockReaderState}
 use Rattle.scr_pcapng.proofs.Heads.{is_total-least}
-use Rattle.scr_pcapng.proofs.HeadsTaken.{IsFaultOf-from, at_most, at_most-then, cut-before_kind, cut-behind_head, cut-behind_kind, cut-in_front, front_of-most, head_of-most, head_of-within, head-told, kind-told, odd, unmarked}
+use Rattle.scr_pcapng.proofs.HeadsTaken.{IsFaultOf-from, at_most, at_most-then, cut-behind_head, cut-behind_kind, cut-in_front, front_of-most, head_of-most, head_of-within, head-told, kind-told, odd, unmarked}
 use Rattle.scr_pcapng.proofs.reader.BlockReader.take_head.Goals as goal
 
-pub returns-then-count-lt-FRONT-clause-faulty : goal.returns-then-count-lt-FRONT-clause-faulty
-returns-then-count-lt-FRONT-clause-faulty g c =
-    let first = c.in_ok-count.ensures in
-    let short = c.if-count-lt-FRONT.true in
-    let some = c.if-count-eq0.false in
-    let within : c.in_ok-count.count ≤ length c.take_front.new.bytes = grind (arith, common_steps) in
-    IsFaultOf-from c.args.self.now.position _ _ c.cut.result _ c.into.ensures c.cut.ensures
-    (cut-in_front _ _ _ c.take_front.new.bytes c.in_ok-count.count c.requires first.taken (first.end short) (omega arith) within
-    (cut-before_kind c.args.self.now.position _ c.in_ok-count.count short))
-
 pub returns-in_err-fill_on-clause-few : goal.returns-in_err-fill_on-clause-few
-returns-in_err-fill_on-clause-few g c =
+returns-in_err-fill_on-clause-few g c = λ front begun.
     let source = g.S.Source in
     let position = c.args.self.now.position in
-    let front = ahead position (source.left c.args.source.now) in
-    let first = c.in_ok-count.ensures in
-    let enough = c.if-count-lt-FRONT.false in
-    let most = first.within in
-    let eight : c.in_ok-count.count ≡ 8 = omega arith in
-    let within : c.in_ok-count.count ≤ length c.take_front.new.bytes = grind (arith, common_steps) in
+    let within : 8 ≤ length c.args.begun = grind (arith, common_steps) in
     let is_front = c.front-front.ensures in
     let bound = front_of-most c.of-kind.result in
-    at_most-then _ _ _ c.take_front.new.bytes c.in_ok-count.count _ 28 first.taken within c.in_err-fill_on.ensures.fewer (omega arith)
+    at_most-then _ _ _ c.args.begun 8 _ 28 begun within c.in_err-fill_on.ensures.fewer (omega arith)
 
 pub returns-then-branch-front-clause-faulty : goal.returns-then-branch-front-clause-faulty
-returns-then-branch-front-clause-faulty g c =
+returns-then-branch-front-clause-faulty g c = λ front begun.
     let source = g.S.Source in
     let position = c.args.self.now.position in
-    let front = ahead position (source.left c.args.source.now) in
-    let first = c.in_ok-count.ensures in
-    let enough = c.if-count-lt-FRONT.false in
-    let most = first.within in
-    let eight : c.in_ok-count.count ≡ 8 = omega arith in
-    let within : c.in_ok-count.count ≤ length c.take_front.new.bytes = grind (arith, common_steps) in
-    let kind : c.of-kind.result ≡ kind_in position c.take_front.new.bytes =
-    c.of-kind.ensures ∙ ap kind_of c.u32_at.ensures ∙ ap (λ (reader : BlockReaderState). kind_in reader.position c.take_front.new.bytes) c.self.view_is in
-    let told = kind-told position front _ c.take_front.new.bytes c.in_ok-count.count c.of-kind.result first.taken (omega arith) within kind in
+    let within : 8 ≤ length c.args.begun = grind (arith, common_steps) in
+    let kind : c.of-kind.result ≡ kind_in position c.args.begun =
+    c.of-kind.ensures ∙ ap kind_of c.u32_at.ensures ∙ ap (λ (reader : BlockReaderState). kind_in reader.position c.args.begun) c.self.view_is in
+    let told = kind-told position front _ c.args.begun 8 c.of-kind.result begun (omega arith) within kind in
     let more = c.in_ok-fill_on.ensures in
-    let taken = more.taken front (subst (λ (n : ℕ). Consumes front (source.left c.take_front.new.source) (take n c.take_front.new.bytes)) eight first.taken) in
+    let taken = more.taken front begun in
     let within_front : c.in_ok-fill_on.field-0 ≤ length c.fill_on.new.buf = grind (arith, common_steps) in
     let is_front = c.front-front.ensures in
     let short = c.if-branch-front.true in
     let some = more.within.0 in
-    IsFaultOf-from position _ _ c.cut-then-branch-front.result _ c.into-then-branch-front.ensures c.cut-then-branch-front.ensures
+    IsFaultOf-from position _ _ c.cut.result _ c.into.ensures c.cut.ensures
     (cut-in_front _ _ _ c.fill_on.new.buf c.in_ok-fill_on.field-0 c.requires taken (more.end short) (omega arith) within_front
     (cut-behind_kind position _ c.in_ok-fill_on.field-0 c.of-kind.result told (omega arith)))
 
 pub returns-in_err-order-clause-faulty : goal.returns-in_err-order-clause-faulty
-returns-in_err-order-clause-faulty g c =
+returns-in_err-order-clause-faulty g c = λ front begun.
     let source = g.S.Source in
     let position = c.args.self.now.position in
-    let front = ahead position (source.left c.args.source.now) in
-    let first = c.in_ok-count.ensures in
-    let enough = c.if-count-lt-FRONT.false in
-    let most = first.within in
-    let eight : c.in_ok-count.count ≡ 8 = omega arith in
-    let within : c.in_ok-count.count ≤ length c.take_front.new.bytes = grind (arith, common_steps) in
-    let kind : c.of-kind.result ≡ kind_in position c.take_front.new.bytes =
-    c.of-kind.ensures ∙ ap kind_of c.u32_at.ensures ∙ ap (λ (reader : BlockReaderState). kind_in reader.position c.take_front.new.bytes) c.self.view_is in
-    let told = kind-told position front _ c.take_front.new.bytes c.in_ok-count.count c.of-kind.result first.taken (omega arith) within kind in
+    let within : 8 ≤ length c.args.begun = grind (arith, common_steps) in
+    let kind : c.of-kind.result ≡ kind_in position c.args.begun =
+    c.of-kind.ensures ∙ ap kind_of c.u32_at.ensures ∙ ap (λ (reader : BlockReaderState). kind_in reader.position c.args.begun) c.self.view_is in
+    let told = kind-told position front _ c.args.begun 8 c.of-kind.result begun (omega arith) within kind in
     let more = c.in_ok-fill_on.ensures in
-    let taken = more.taken front (subst (λ (n : ℕ). Consumes front (source.left c.take_front.new.source) (take n c.take_front.new.bytes)) eight first.taken) in
+    let taken = more.taken front begun in
     let within_front : c.in_ok-fill_on.field-0 ≤ length c.fill_on.new.buf = grind (arith, common_steps) in
     let is_front = c.front-front.ensures in
     let all_front = c.if-branch-front.false in
@@ -83,20 +58,15 @@ returns-in_err-order-clause-faulty g c =
     (unmarked position front _ c.fill_on.new.buf c.in_ok-fill_on.field-0 c.of-kind.result c.requires taken size within_front told refused.0))
 
 pub returns-then-not-is_total-clause-faulty : goal.returns-then-not-is_total-clause-faulty
-returns-then-not-is_total-clause-faulty g c =
+returns-then-not-is_total-clause-faulty g c = λ front begun.
     let source = g.S.Source in
     let position = c.args.self.now.position in
-    let front = ahead position (source.left c.args.source.now) in
-    let first = c.in_ok-count.ensures in
-    let enough = c.if-count-lt-FRONT.false in
-    let most = first.within in
-    let eight : c.in_ok-count.count ≡ 8 = omega arith in
-    let within : c.in_ok-count.count ≤ length c.take_front.new.bytes = grind (arith, common_steps) in
-    let kind : c.of-kind.result ≡ kind_in position c.take_front.new.bytes =
-    c.of-kind.ensures ∙ ap kind_of c.u32_at.ensures ∙ ap (λ (reader : BlockReaderState). kind_in reader.position c.take_front.new.bytes) c.self.view_is in
-    let told = kind-told position front _ c.take_front.new.bytes c.in_ok-count.count c.of-kind.result first.taken (omega arith) within kind in
+    let within : 8 ≤ length c.args.begun = grind (arith, common_steps) in
+    let kind : c.of-kind.result ≡ kind_in position c.args.begun =
+    c.of-kind.ensures ∙ ap kind_of c.u32_at.ensures ∙ ap (λ (reader : BlockReaderState). kind_in reader.position c.args.begun) c.self.view_is in
+    let told = kind-told position front _ c.args.begun 8 c.of-kind.result begun (omega arith) within kind in
     let more = c.in_ok-fill_on.ensures in
-    let taken = more.taken front (subst (λ (n : ℕ). Consumes front (source.left c.take_front.new.source) (take n c.take_front.new.bytes)) eight first.taken) in
+    let taken = more.taken front begun in
     let within_front : c.in_ok-fill_on.field-0 ≤ length c.fill_on.new.buf = grind (arith, common_steps) in
     let is_front = c.front-front.ensures in
     let all_front = c.if-branch-front.false in
@@ -108,20 +78,15 @@ returns-then-not-is_total-clause-faulty g c =
     (odd position front c.of-kind.result c.in_ok-order.order c.u32_at-total.result head (sym c.is_total.ensures ∙ c.if-not-is_total.true))
 
 pub returns-in_err-fill_on-2-clause-few : goal.returns-in_err-fill_on-2-clause-few
-returns-in_err-fill_on-2-clause-few g c =
+returns-in_err-fill_on-2-clause-few g c = λ front begun.
     let source = g.S.Source in
     let position = c.args.self.now.position in
-    let front = ahead position (source.left c.args.source.now) in
-    let first = c.in_ok-count.ensures in
-    let enough = c.if-count-lt-FRONT.false in
-    let most = first.within in
-    let eight : c.in_ok-count.count ≡ 8 = omega arith in
-    let within : c.in_ok-count.count ≤ length c.take_front.new.bytes = grind (arith, common_steps) in
-    let kind : c.of-kind.result ≡ kind_in position c.take_front.new.bytes =
-    c.of-kind.ensures ∙ ap kind_of c.u32_at.ensures ∙ ap (λ (reader : BlockReaderState). kind_in reader.position c.take_front.new.bytes) c.self.view_is in
-    let told = kind-told position front _ c.take_front.new.bytes c.in_ok-count.count c.of-kind.result first.taken (omega arith) within kind in
+    let within : 8 ≤ length c.args.begun = grind (arith, common_steps) in
+    let kind : c.of-kind.result ≡ kind_in position c.args.begun =
+    c.of-kind.ensures ∙ ap kind_of c.u32_at.ensures ∙ ap (λ (reader : BlockReaderState). kind_in reader.position c.args.begun) c.self.view_is in
+    let told = kind-told position front _ c.args.begun 8 c.of-kind.result begun (omega arith) within kind in
     let more = c.in_ok-fill_on.ensures in
-    let taken = more.taken front (subst (λ (n : ℕ). Consumes front (source.left c.take_front.new.source) (take n c.take_front.new.bytes)) eight first.taken) in
+    let taken = more.taken front begun in
     let within_front : c.in_ok-fill_on.field-0 ≤ length c.fill_on.new.buf = grind (arith, common_steps) in
     let is_front = c.front-front.ensures in
     let all_front = c.if-branch-front.false in
@@ -133,20 +98,15 @@ returns-in_err-fill_on-2-clause-few g c =
     at_most-then _ _ _ c.fill_on.new.buf c.in_ok-fill_on.field-0 _ 28 taken within_front c.in_err-fill_on-2.ensures.fewer (omega arith)
 
 pub returns-then-branch-size-clause-faulty : goal.returns-then-branch-size-clause-faulty
-returns-then-branch-size-clause-faulty g c =
+returns-then-branch-size-clause-faulty g c = λ front begun.
     let source = g.S.Source in
     let position = c.args.self.now.position in
-    let front = ahead position (source.left c.args.source.now) in
-    let first = c.in_ok-count.ensures in
-    let enough = c.if-count-lt-FRONT.false in
-    let most = first.within in
-    let eight : c.in_ok-count.count ≡ 8 = omega arith in
-    let within : c.in_ok-count.count ≤ length c.take_front.new.bytes = grind (arith, common_steps) in
-    let kind : c.of-kind.result ≡ kind_in position c.take_front.new.bytes =
-    c.of-kind.ensures ∙ ap kind_of c.u32_at.ensures ∙ ap (λ (reader : BlockReaderState). kind_in reader.position c.take_front.new.bytes) c.self.view_is in
-    let told = kind-told position front _ c.take_front.new.bytes c.in_ok-count.count c.of-kind.result first.taken (omega arith) within kind in
+    let within : 8 ≤ length c.args.begun = grind (arith, common_steps) in
+    let kind : c.of-kind.result ≡ kind_in position c.args.begun =
+    c.of-kind.ensures ∙ ap kind_of c.u32_at.ensures ∙ ap (λ (reader : BlockReaderState). kind_in reader.position c.args.begun) c.self.view_is in
+    let told = kind-told position front _ c.args.begun 8 c.of-kind.result begun (omega arith) within kind in
     let more = c.in_ok-fill_on.ensures in
-    let taken = more.taken front (subst (λ (n : ℕ). Consumes front (source.left c.take_front.new.source) (take n c.take_front.new.bytes)) eight first.taken) in
+    let taken = more.taken front begun in
     let within_front : c.in_ok-fill_on.field-0 ≤ length c.fill_on.new.buf = grind (arith, common_steps) in
     let is_front = c.front-front.ensures in
     let all_front = c.if-branch-front.false in
@@ -169,20 +129,15 @@ returns-then-branch-size-clause-faulty g c =
     taken_head (last.end short) (omega arith))
 
 pub returns-then-branch-size-clause-few : goal.returns-then-branch-size-clause-few
-returns-then-branch-size-clause-few g c =
+returns-then-branch-size-clause-few g c = λ front begun.
     let source = g.S.Source in
     let position = c.args.self.now.position in
-    let front = ahead position (source.left c.args.source.now) in
-    let first = c.in_ok-count.ensures in
-    let enough = c.if-count-lt-FRONT.false in
-    let most = first.within in
-    let eight : c.in_ok-count.count ≡ 8 = omega arith in
-    let within : c.in_ok-count.count ≤ length c.take_front.new.bytes = grind (arith, common_steps) in
-    let kind : c.of-kind.result ≡ kind_in position c.take_front.new.bytes =
-    c.of-kind.ensures ∙ ap kind_of c.u32_at.ensures ∙ ap (λ (reader : BlockReaderState). kind_in reader.position c.take_front.new.bytes) c.self.view_is in
-    let told = kind-told position front _ c.take_front.new.bytes c.in_ok-count.count c.of-kind.result first.taken (omega arith) within kind in
+    let within : 8 ≤ length c.args.begun = grind (arith, common_steps) in
+    let kind : c.of-kind.result ≡ kind_in position c.args.begun =
+    c.of-kind.ensures ∙ ap kind_of c.u32_at.ensures ∙ ap (λ (reader : BlockReaderState). kind_in reader.position c.args.begun) c.self.view_is in
+    let told = kind-told position front _ c.args.begun 8 c.of-kind.result begun (omega arith) within kind in
     let more = c.in_ok-fill_on.ensures in
-    let taken = more.taken front (subst (λ (n : ℕ). Consumes front (source.left c.take_front.new.source) (take n c.take_front.new.bytes)) eight first.taken) in
+    let taken = more.taken front begun in
     let within_front : c.in_ok-fill_on.field-0 ≤ length c.fill_on.new.buf = grind (arith, common_steps) in
     let is_front = c.front-front.ensures in
     let all_front = c.if-branch-front.false in
@@ -198,20 +153,15 @@ returns-then-branch-size-clause-few g c =
     at_most _ _ c.fill_on-2.new.buf c.in_ok-fill_on-2.field-0 28 taken_head within_head (omega arith)
 
 pub returns-clause-given : goal.returns-clause-given
-returns-clause-given g c =
+returns-clause-given g c = λ front begun.
     let source = g.S.Source in
     let position = c.args.self.now.position in
-    let front = ahead position (source.left c.args.source.now) in
-    let first = c.in_ok-count.ensures in
-    let enough = c.if-count-lt-FRONT.false in
-    let most = first.within in
-    let eight : c.in_ok-count.count ≡ 8 = omega arith in
-    let within : c.in_ok-count.count ≤ length c.take_front.new.bytes = grind (arith, common_steps) in
-    let kind : c.of-kind.result ≡ kind_in position c.take_front.new.bytes =
-    c.of-kind.ensures ∙ ap kind_of c.u32_at.ensures ∙ ap (λ (reader : BlockReaderState). kind_in reader.position c.take_front.new.bytes) c.self.view_is in
-    let told = kind-told position front _ c.take_front.new.bytes c.in_ok-count.count c.of-kind.result first.taken (omega arith) within kind in
+    let within : 8 ≤ length c.args.begun = grind (arith, common_steps) in
+    let kind : c.of-kind.result ≡ kind_in position c.args.begun =
+    c.of-kind.ensures ∙ ap kind_of c.u32_at.ensures ∙ ap (λ (reader : BlockReaderState). kind_in reader.position c.args.begun) c.self.view_is in
+    let told = kind-told position front _ c.args.begun 8 c.of-kind.result begun (omega arith) within kind in
     let more = c.in_ok-fill_on.ensures in
-    let taken = more.taken front (subst (λ (n : ℕ). Consumes front (source.left c.take_front.new.source) (take n c.take_front.new.bytes)) eight first.taken) in
+    let taken = more.taken front begun in
     let within_front : c.in_ok-fill_on.field-0 ≤ length c.fill_on.new.buf = grind (arith, common_steps) in
     let is_front = c.front-front.ensures in
     let all_front = c.if-branch-front.false in
@@ -233,20 +183,15 @@ returns-clause-given g c =
     }
 
 pub returns-clause-few : goal.returns-clause-few
-returns-clause-few g c =
+returns-clause-few g c = λ front begun.
     let source = g.S.Source in
     let position = c.args.self.now.position in
-    let front = ahead position (source.left c.args.source.now) in
-    let first = c.in_ok-count.ensures in
-    let enough = c.if-count-lt-FRONT.false in
-    let most = first.within in
-    let eight : c.in_ok-count.count ≡ 8 = omega arith in
-    let within : c.in_ok-count.count ≤ length c.take_front.new.bytes = grind (arith, common_steps) in
-    let kind : c.of-kind.result ≡ kind_in position c.take_front.new.bytes =
-    c.of-kind.ensures ∙ ap kind_of c.u32_at.ensures ∙ ap (λ (reader : BlockReaderState). kind_in reader.position c.take_front.new.bytes) c.self.view_is in
-    let told = kind-told position front _ c.take_front.new.bytes c.in_ok-count.count c.of-kind.result first.taken (omega arith) within kind in
+    let within : 8 ≤ length c.args.begun = grind (arith, common_steps) in
+    let kind : c.of-kind.result ≡ kind_in position c.args.begun =
+    c.of-kind.ensures ∙ ap kind_of c.u32_at.ensures ∙ ap (λ (reader : BlockReaderState). kind_in reader.position c.args.begun) c.self.view_is in
+    let told = kind-told position front _ c.args.begun 8 c.of-kind.result begun (omega arith) within kind in
     let more = c.in_ok-fill_on.ensures in
-    let taken = more.taken front (subst (λ (n : ℕ). Consumes front (source.left c.take_front.new.source) (take n c.take_front.new.bytes)) eight first.taken) in
+    let taken = more.taken front begun in
     let within_front : c.in_ok-fill_on.field-0 ≤ length c.fill_on.new.buf = grind (arith, common_steps) in
     let is_front = c.front-front.ensures in
     let all_front = c.if-branch-front.false in
