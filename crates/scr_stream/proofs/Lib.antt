@@ -1,2 +1,16 @@
 mod Prompt
 mod Putting
+mod RowsOfFrames
+mod Ranges
+mod FrameAdded
+mod EntryTests
+mod Differing
+mod FramesInFront
+mod FrameTaken
+mod Keeping
+mod HeaderRead
+mod FrameRead
+mod EndRead
+mod EntryRead
+mod WholeStream
+mod Growing

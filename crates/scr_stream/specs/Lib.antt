@@ -1,2 +1,6 @@
 pub mod Causes
 pub mod Streamed
+pub mod Frames
+pub mod Tests
+pub mod Reading
+pub mod Taken

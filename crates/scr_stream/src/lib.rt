@@ -19,10 +19,19 @@
 //! look at the frames of its core up to the step at which it comes.
 #![tactic(auto)]
 
+mod entry;
+mod error;
+mod filling;
 mod format;
+mod header;
 mod put;
+mod read;
+mod taken;
 #[cfg(test)]
 mod tests;
 mod write;
 
+pub use error::StreamError;
+pub use header::Shape;
+pub use read::read_stream;
 pub use write::write_stream;
