@@ -20,7 +20,7 @@ clash-nothing : (a b : Option Row) → a ≡ None → clash a b ≡ false
 clash-nothing None b none = refl
 clash-nothing (Some row) b none = absurd cc
 
-got : (f : ℕ → Row) (a n i : ℕ) → i < n → slice_get (map f (range_with_len a n)) i ≡ Some (f (a + i))
+pub got : (f : ℕ → Row) (a n i : ℕ) → i < n → slice_get (map f (range_with_len a n)) i ≡ Some (f (a + i))
 got f a zero i below = absurd (omega arith)
 got f a (suc n) zero below = let at : a ≡ a + 0 = omega arith in ap (λ (k : ℕ). Some (f k)) at
 got f a (suc n) (suc i) below =

@@ -1,16 +1,19 @@
 -- An entry read of a source, by what was kept of the frames before it.
-use Rattle.std.proofs.Common.{◌≡◌, ℕ, ◌+◌, ◌<◌, ◌≤◌, Bool, true, false, cond, List, [], ◌∷◌, ◌++◌, length, take, Option, Some, None, IfSome, refl, sym, ap, subst, ◌∙◌, inl, inr, arith, rules, tests}
+use Rattle.std.proofs.Common.{◌≡◌, ◌≢◌, ℕ, ◌+◌, ◌<◌, ◌≤◌, Bool, true, false, cond, List, [], ◌∷◌, ◌++◌, length, take, Option, Some, None, IfSome, refl, sym, ap, subst, ◌∙◌, inl, inr, arith, rules, tests}
 use Rattle.std.specs.Prelude.{nat_lt}
 use Rattle.std.proofs.lemmas.Bool.{cases_lt}
 use Rattle.std.specs.Io.KnownBytes.{Consumes, IsAtEnd, prepend_known}
 use Rattle.scr_base.specs.declared.row.Row.{Row}
 use Rattle.scr_pcap.proofs.Told.{IsReadInFront}
+use Rattle.scr_wire.specs.declared.message.MessageKind.{MessageKind}
+use Rattle.scr_wire.specs.declared.message.MessageKind.TheVariants.{Frame, Beacon, End}
+use Rattle.scr_wire.specs.Reading.{number_in, count_in}
 use Rattle.scr_stream.specs.Frames.{StreamFrame, last_number}
-use Rattle.scr_stream.specs.Tests.{header_fault, entry_fault}
+use Rattle.scr_stream.specs.Tests.{kind_in, field_fault, header_fault, entry_fault}
 use Rattle.scr_stream.specs.Taken.{StandsFor, IsFound, TakesFrame}
 use Rattle.scr_stream.specs.declared.error.StreamError.{StreamError}
 use Rattle.scr_stream.specs.declared.error.StreamError.TheVariants as fault
-use Rattle.scr_stream.proofs.EntryTests.{header-refused}
+use Rattle.scr_stream.proofs.EntryTests.{header-refused, header-parts}
 use Rattle.scr_stream.proofs.Keeping.{kept-length}
 
 -- a header that passes is whole
@@ -58,3 +61,12 @@ TakesFrame-joined history frames old mid new header rows missing count first tak
   taken = Consumes-joined old mid new header _ first taken.taken;
   stands = taken.stands;
 }
+
+-- a header that passes and is no frame's is that of an end
+pub kind-end : (history entry last : ℕ) (header : List ℕ) → length header ≡ 10 → header_fault history entry last header ≡ None → kind_in header ≢ Frame → kind_in header ≡ End
+kind-end history entry last header ten passed other = by (kind_in header) other (header-parts history entry last header ten passed).1
+  where
+    by : (k : MessageKind) → k ≢ Frame → field_fault history entry last k (number_in header) (count_in header) ≡ None → k ≡ End
+    by Frame not_it none = absurd (not_it refl)
+    by Beacon not_it none = absurd cc
+    by End not_it none = refl

@@ -22,7 +22,7 @@ use Rattle.scr_stream.specs.declared.error.StreamError.TheVariants as fault
 
 -- ---- fields, with more bytes behind them
 
-byte-append : (i : ℕ) (first behind : List ℕ) → i < length first → slice_index (first ++ behind) i ≡ slice_index first i
+pub byte-append : (i : ℕ) (first behind : List ℕ) → i < length first → slice_index (first ++ behind) i ≡ slice_index first i
 byte-append i first behind below = get_or-append first behind 0 i below
 
 pub number_in-append : (first behind : List ℕ) → 10 ≤ length first → number_in (first ++ behind) ≡ number_in first
@@ -173,27 +173,49 @@ holds : (b : Bool) → not b ≡ false → b ≡ true
 holds true none = refl
 holds false none = absurd cc
 
+-- what is left of the tests, behind each of them
+abbrev pub behind-count : List ℕ → Option WireError
+behind-count bytes = cond (not (has_length bytes)) (Some wire.Length) None
+
+abbrev pub behind-code : List ℕ → Option WireError
+behind-code bytes = cond (not (has_count bytes)) (Some wire.Count) (behind-count bytes)
+
+abbrev pub behind-version : List ℕ → Option WireError
+behind-version bytes = cond (not (is_code (slice_index bytes 3))) (Some wire.Kind) (behind-code bytes)
+
+abbrev pub behind-mark : List ℕ → Option WireError
+behind-mark bytes = cond (not (eqb (slice_index bytes 2) 2)) (Some wire.Version) (behind-version bytes)
+
+abbrev pub behind-length : List ℕ → Option WireError
+behind-length bytes = cond (not (has_mark bytes)) (Some wire.Mark) (behind-mark bytes)
+
+-- all tests of a header pass
+record PassesTests (header : List ℕ) : Type 0 where
+  mark : not (has_mark header) ≡ false
+  version : not (eqb (slice_index header 2) 2) ≡ false
+  code : not (is_code (slice_index header 3)) ≡ false
+  count : not (has_count header) ≡ false
+
+passes-tests : (header : List ℕ) → header_refusal (refusal header) ≡ None → PassesTests header
+unfolding refusal
+passes-tests header none =
+    let long = guard (nat_lt (length header) 10) wire.Short (behind-length header) (some-apart wire.Short) none in
+    let mark = guard (not (has_mark header)) wire.Mark (behind-mark header) (some-apart wire.Mark) long.1 in
+    let version = guard (not (eqb (slice_index header 2) 2)) wire.Version (behind-version header) (some-apart wire.Version) mark.1 in
+    let code = guard (not (is_code (slice_index header 3))) wire.Kind (behind-code header) (some-apart wire.Kind) version.1 in
+    let count = guard (not (has_count header)) wire.Count (behind-count header) (some-apart wire.Count) code.1 in
+    record { mark = mark.0; version = version.0; code = code.0; count = count.0 }
+
 -- its count of rows is allowed
 pub header-count : (header : List ℕ) → header_refusal (refusal header) ≡ None → has_count header ≡ true
-unfolding refusal
-header-count header none =
-    let long = guard _ wire.Short _ (some-apart wire.Short) none in
-    let mark = guard _ wire.Mark _ (some-apart wire.Mark) long.1 in
-    let version = guard _ wire.Version _ (some-apart wire.Version) mark.1 in
-    let code = guard _ wire.Kind _ (some-apart wire.Kind) version.1 in
-    let count = guard _ wire.Count _ (some-apart wire.Count) code.1 in
-    holds _ count.0
+header-count header none = holds (has_count header) (passes-tests header none).count
 
 -- with its rows behind it, it is a message
 pub refusal-whole : (header content : List ℕ) → length header ≡ 10 → header_refusal (refusal header) ≡ None → length content ≡ 56 * count_in header
     → refusal (header ++ content) ≡ None
 unfolding refusal
 refusal-whole header content ten none all =
-    let long = guard _ wire.Short _ (some-apart wire.Short) none in
-    let mark = guard _ wire.Mark _ (some-apart wire.Mark) long.1 in
-    let version = guard _ wire.Version _ (some-apart wire.Version) mark.1 in
-    let code = guard _ wire.Kind _ (some-apart wire.Kind) version.1 in
-    let count = guard _ wire.Count _ (some-apart wire.Count) code.1 in
+    let passes = passes-tests header none in
     let enough : 10 ≤ length header = omega arith in
     let whole = length-append header content in
     let size = count_in-append header content enough in
@@ -201,13 +223,13 @@ refusal-whole header content ten none all =
     let test : ℕ → ℕ → Bool = λ a b. eqb a 0x53 && eqb b 0x43 in
     let t1 : not (has_mark (header ++ content)) ≡ false =
     ap not (ap (λ (n : ℕ). test n (slice_index (header ++ content) 1)) (byte-append 0 header content (omega arith))
-    ∙ ap (test (slice_index header 0)) (byte-append 1 header content (omega arith))) ∙ mark.0 in
-    let t2 : not (eqb (slice_index (header ++ content) 2) 2) ≡ false = ap (λ (n : ℕ). not (eqb n 2)) (byte-append 2 header content (omega arith)) ∙ version.0 in
-    let t3 : not (is_code (slice_index (header ++ content) 3)) ≡ false = ap (λ (n : ℕ). not (is_code n)) (byte-append 3 header content (omega arith)) ∙ code.0 in
+    ∙ ap (test (slice_index header 0)) (byte-append 1 header content (omega arith))) ∙ passes.mark in
+    let t2 : not (eqb (slice_index (header ++ content) 2) 2) ≡ false = ap (λ (n : ℕ). not (eqb n 2)) (byte-append 2 header content (omega arith)) ∙ passes.version in
+    let t3 : not (is_code (slice_index (header ++ content) 3)) ≡ false = ap (λ (n : ℕ). not (is_code n)) (byte-append 3 header content (omega arith)) ∙ passes.code in
     let t4 : not (has_count (header ++ content)) ≡ false =
     ap (λ (k : MessageKind). not (allows k (number_in (header ++ content)) (count_in (header ++ content)))) (kind_in-append header content enough)
     ∙ ap (λ (n : ℕ). not (allows (kind_in header) n (count_in (header ++ content)))) (number_in-append header content enough)
     ∙ ap (λ (n : ℕ). not (allows (kind_in header) (number_in header) n)) size
-    ∙ count.0 in
+    ∙ passes.count in
     let t5 : not (has_length (header ++ content)) ≡ false = grind (arith, nat_tests) in
     rw (t0, t1, t2, t3, t4, t5) refl

@@ -14,3 +14,9 @@ mod EndRead
 mod EntryRead
 mod WholeStream
 mod Growing
+mod RowsWritten
+mod FramesWritten
+mod EntryStands
+mod OneReading
+mod WrittenRead
+mod Reach

@@ -4,3 +4,4 @@ pub mod Frames
 pub mod Tests
 pub mod Reading
 pub mod Taken
+pub mod SameRun

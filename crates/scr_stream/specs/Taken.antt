@@ -1,5 +1,5 @@
 -- What a reader keeps of the frames that it took, and what it takes of its source.
-use Rattle.std.specs.Prelude.{◌≡◌, ◌≢◌, ℕ, ◌+◌, ◌<◌, ◌≤◌, ⊤, Bool, true, false, List, ◌∷◌, [], ◌++◌, length, Option, Some, None, IfSome, Result, Err}
+use Rattle.std.specs.Prelude.{◌≡◌, ◌≢◌, ℕ, ◌+◌, ◌*◌, ◌<◌, ◌≤◌, ⊤, Bool, true, false, List, ◌∷◌, [], ◌++◌, length, Option, Some, None, IfSome, Result, Err}
 use Rattle.std.specs.Io.KnownBytes.{Consumes, IsAtEnd}
 use Rattle.scr_base.specs.Causes.{counted}
 use Rattle.scr_base.specs.declared.row.Row.{Row}
@@ -27,6 +27,14 @@ pub record StandsFor (history : ℕ) (frames : List StreamFrame) (rows : List Ro
   pub fewer : length frames ≤ last_number frames
   pub none_above : (p : ℕ) → last_number frames < p → row_in frames p ≡ None
   pub known : (p : ℕ) → 1 ≤ p → p ≤ last_number frames → last_number frames < p + (history + 1) → row_in frames p ≢ None
+
+-- the most bytes of an entry: a header, and the rows of a frame with the longest history
+abbrev pub longest_entry : ℕ
+longest_entry = 10 + 56 * most_rows
+
+-- the most bytes that are taken up to an error: the header, a million frames, and the entry behind them
+abbrev pub most_bytes : ℕ
+most_bytes = 8 + (most_packets + 1) * longest_entry
 
 -- an error that a test found: the others are a fault of the source and want of memory
 abbrev pub IsFound : StreamError → Type 0

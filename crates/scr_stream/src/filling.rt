@@ -1,6 +1,7 @@
-ghost use Rattle.std.specs.Prelude.{◌≡◌, ◌≤◌, ◌<◌, ℕ, length, take, IfOk};
+ghost use Rattle.std.specs.Prelude.{◌≤◌, ◌<◌, ◌-◌, length, take, IfOk};
 ghost use Rattle.std.specs.Io.KnownBytes.{IsAtEnd};
 ghost use Rattle.scr_base.specs.Causes.{CountsFault};
+ghost use Rattle.scr_pcap.specs.Taken.{GivesAtMost};
 ghost use Rattle.scr_stream.specs.Taken.{IsFilledBehind};
 
 use scr_base::{Failed, Source};
@@ -17,6 +18,7 @@ pub(crate) fn fill_behind<S: Source>(
     ensures least { IfOk result (λ count. length first.now ≤ count) }
     ensures filled { IfOk result (λ count. IsFilledBehind first.now (S.left source.old) (S.left source.new) (take count buffer.new)) }
     ensures end { IfOk result (λ count. count < length buffer.old → IsAtEnd (S.left source.new)) }
+    ensures few { GivesAtMost (length buffer.old - length first.now) (S.left source.old) (S.left source.new) }
     ensures cause { CountsFault S.faults source.old source.new result }
 {
     buffer[..first.len()].copy_from_slice(first);

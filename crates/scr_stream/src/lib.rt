@@ -24,6 +24,7 @@ mod error;
 mod filling;
 mod format;
 mod header;
+mod laws;
 mod put;
 mod read;
 mod taken;
@@ -33,5 +34,6 @@ mod write;
 
 pub use error::StreamError;
 pub use header::Shape;
+pub use laws::{one_reading, written_is_read};
 pub use read::read_stream;
 pub use write::write_stream;

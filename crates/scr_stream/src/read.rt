@@ -1,9 +1,10 @@
-ghost use Rattle.std.specs.Prelude.{◌≡◌, ◌≤◌, drop, Option, Some, Ok, Err, IfOk, IfErr, IfSome, OnOk};
+ghost use Rattle.std.specs.Prelude.{◌≡◌, ◌≤◌, drop, Option, Some, Ok, Err, IfOk, IfErr, IfSome, OnOk, OnErr};
 ghost use Rattle.std.specs.Io.KnownBytes.{IsAtEnd};
+ghost use Rattle.scr_pcap.specs.Taken.{GivesAtMost};
 ghost use Rattle.scr_plan.specs.Limits.{most_cores, longest_history};
 ghost use Rattle.scr_stream.specs.Tests.{shape_of};
 ghost use Rattle.scr_stream.specs.Reading.{IsStream, IsReading};
-ghost use Rattle.scr_stream.specs.Taken.{IsFound, CountsReadFault};
+ghost use Rattle.scr_stream.specs.Taken.{IsFound, CountsReadFault, most_bytes};
 
 use crate::error::StreamError;
 use crate::format::STREAM_HEADER;
@@ -25,6 +26,7 @@ pub fn read_stream<S: Source>(
     ensures plan { IfSome (S.left source.old) (λ bytes. IfOk result (λ plan. IsStream program bytes plan)) }
     ensures end { OnOk result (IsAtEnd (S.left source.new)) }
     ensures refused { IfSome (S.left source.old) (λ bytes. IfErr result (λ error. IsFound error → IsReading program bytes (Err error))) }
+    ensures few { OnErr result (GivesAtMost most_bytes (S.left source.old) (S.left source.new)) }
     ensures counts { CountsReadFault S.faults source.old source.new result }
 {
     let shape = take_shape(program, source)?;
@@ -50,6 +52,7 @@ fn take_shape<S: Source>(program: u8, source: &mut S) -> Result<Shape, StreamErr
         (shape_of program bytes ≡ Ok shape) × (S.left source.new ≡ Some (drop 8 bytes)))) }
     ensures ranges { IfOk result (λ shape. (1 ≤ shape.cores) × (shape.cores ≤ most_cores) × (shape.history ≤ longest_history)) }
     ensures refused { IfSome (S.left source.old) (λ bytes. IfErr result (λ error. IsFound error → shape_of program bytes ≡ Err error)) }
+    ensures few { GivesAtMost 8 (S.left source.old) (S.left source.new) }
     ensures counts { CountsReadFault S.faults source.old source.new result }
 {
     let mut header = [0; STREAM_HEADER];

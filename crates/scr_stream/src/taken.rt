@@ -1,6 +1,7 @@
 ghost use Rattle.std.specs.Prelude.{◌≡◌, ◌≢◌, ◌≤◌, ◌<◌, ◌+◌, ◌*◌, ◌-◌, ◌++◌, ◌∷◌, [], ℕ, List, true, false, length, map, unwrap_or, None, Some, IfOk, IfErr, IfSome, OnOk, slice_get};
 ghost use Rattle.std.specs.List.{list_any, range_with_len};
 ghost use Rattle.std.specs.Io.KnownBytes.{IsAtEnd, prepend_known};
+ghost use Rattle.scr_pcap.specs.Taken.{GivesAtMost};
 ghost use Rattle.scr_plan.specs.Limits.{most_packets, longest_history};
 ghost use Rattle.scr_wire.specs.Kinds.{most_rows};
 ghost use Rattle.scr_wire.specs.Reading.{count_in};
@@ -8,7 +9,7 @@ ghost use Rattle.scr_wire.specs.Spelling.{number_of, rows_of};
 ghost use Rattle.scr_stream.specs.Frames.{StreamFrame, frame_of, carried_row, last_number};
 ghost use Rattle.scr_stream.specs.Tests.{rows_due, header_fault, entry_fault, differs, same_row, clash};
 ghost use Rattle.scr_stream.specs.Reading.{Follows, no_row};
-ghost use Rattle.scr_stream.specs.Taken.{StandsFor, IsFound, CountsReadFault, IsFrameHeader, TakesFrame, TakesEntry};
+ghost use Rattle.scr_stream.specs.Taken.{StandsFor, IsFound, CountsReadFault, IsFrameHeader, TakesFrame, TakesEntry, longest_entry};
 
 use crate::entry::Place;
 use crate::error::StreamError;
@@ -119,6 +120,7 @@ impl Taken {
         ensures refused { IfSome (S.left source.old) (λ bytes. IfErr result (λ error. IsFound error → (frames : List StreamFrame)
             → StandsFor history frames self.old.rows.items self.old.missing.items self.old.frames
             → entry_fault history frames bytes ≡ Some error)) }
+        ensures few { GivesAtMost longest_entry (S.left source.old) (S.left source.new) }
         ensures counts { CountsReadFault S.faults source.old source.new result }
     {
         let place = Place {
@@ -126,12 +128,13 @@ impl Taken {
             entry: self.frames + 1,
             last: self.last(),
         };
-        let mut header = [0; HEADER];
-        let count = fill(source, &mut header)?;
-        let fields = place.fields_of(&header[..count])?;
+        let mut room = [0; HEADER];
+        let count = fill(source, &mut room)?;
+        let header = &room[..count];
+        let fields = place.fields_of(header)?;
         match fields.kind {
             MessageKind::Frame => {
-                self.take_frame(&header, fields.count, source, buffer)?;
+                self.take_frame(header, fields.count, source, buffer)?;
                 Ok(true)
             }
             _ => {
@@ -162,6 +165,7 @@ impl Taken {
             → StandsFor history frames self.old.rows.items self.old.missing.items self.old.frames
             → header_fault history (length frames + 1) (last_number frames) header.now ≡ None
             → entry_fault history frames (header.now ++ behind) ≡ Some error)) }
+        ensures few { GivesAtMost (56 * count) (S.left source.old) (S.left source.new) }
         ensures counts { CountsReadFault S.faults source.old source.new result }
     {
         let entry = self.frames + 1;
@@ -277,6 +281,7 @@ impl Taken {
 fn take_end<S: Source>(source: &mut S) -> Result<(), StreamError>
     ensures end { OnOk result (IsAtEnd (S.left source.old) × IsAtEnd (S.left source.new)) }
     ensures followed { IfSome (S.left source.old) (λ bytes. IfErr result (λ error. IsFound error → (error ≡ StreamError.Trailing) × (0 < length bytes))) }
+    ensures few { GivesAtMost 1 (S.left source.old) (S.left source.new) }
     ensures counts { CountsReadFault S.faults source.old source.new result }
 {
     let mut byte = [0; 1];

@@ -34,6 +34,6 @@ returns-clause-rows c =
     let start : first ≡ length old + 1 = ap (λ (n : ℕ). n + 1) told in
     map-grown f old _ _ first number _ (omega arith)
     (c.loop-p.invariant.rows ∙ ap (λ (n : ℕ). old ++ map f (range_with_len first (n - first))) at)
-    c.in_ok-push-3.ensures.items c.row_or_none-2.ensures
+    c.in_ok-push-3.ensures.items (c.row_or_none-2.ensures ∙ ap f c.number-number.ensures)
     ∙ ap (λ (n : ℕ). old ++ map f (range_with_len first n)) size
     ∙ ap (λ (k : ℕ). old ++ map f (range_with_len k (number - length old))) start
