@@ -93,6 +93,23 @@ module _ (header content : List ℕ) (it : Message) (ten : length header ≡ 10)
   pub frame-spelled : header ++ content ≡ frame_bytes (frame_of it)
   frame-spelled = spells.spelled ∙ ap spelling (sym whole)
 
+  rows-counted : length (rows_of it) ≡ count_in header
+  rows-counted = ap (λ (m : Message). length (rows_of m)) is-frame ∙ length-rows (count_in header) content
+
+  -- its number and its count of rows are those of its header
+  pub frame-counts : (number_of it ≡ number_in header) × (length (rows_of it) ≡ count_in header)
+  frame-counts = (ap number_of is-frame, rows-counted)
+
+  -- it has as many rows as it must
+  pub frame-due : (history : ℕ) (frames : List StreamFrame) → header_fault history (length frames + 1) (last_number frames) header ≡ None
+      → length (rows_of it) ≡ rows_due history (number_of it)
+  frame-due history frames passed =
+      let fields : field_fault history (length frames + 1) (last_number frames) Frame (number_in header) (count_in header) ≡ None =
+      ap (λ (k : MessageKind). field_fault history (length frames + 1) (last_number frames) k (number_in header) (count_in header)) (sym kind-is)
+      ∙ (header-parts history (length frames + 1) (last_number frames) header ten passed).1 in
+      rows-counted ∙ (frame-fields history (length frames + 1) (last_number frames) (number_in header) (count_in header) fields).2
+      ∙ ap (rows_due history) (sym (ap number_of is-frame))
+
   -- it may stand behind these frames
   pub frame-follows : (history : ℕ) (frames : List StreamFrame) → header_fault history (length frames + 1) (last_number frames) header ≡ None
       → differs frames (frame_of it) ≡ false → Follows history frames (frame_of it)

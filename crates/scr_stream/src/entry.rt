@@ -2,6 +2,8 @@ ghost use Rattle.std.specs.Prelude.{◌≡◌, ◌≢◌, ◌≤◌, length, Opt
 ghost use Rattle.scr_plan.specs.Limits.{longest_history};
 ghost use Rattle.scr_wire.specs.Kinds.{kind_with};
 ghost use Rattle.scr_wire.specs.Refusals.{refusal};
+ghost use Rattle.scr_wire.specs.Spelling.{spelling};
+ghost use Rattle.scr_wire.specs.declared.message.Message.TheVariants as message;
 ghost use Rattle.scr_stream.specs.declared.error.StreamError.{StreamError};
 ghost use Rattle.scr_wire.specs.Reading.{number_in, count_in};
 ghost use Rattle.scr_stream.specs.Tests.{kind_in, header_refusal, message_fault, field_fault, header_fault};
@@ -51,6 +53,7 @@ impl Place {
         ensures kind { IfOk result (λ fields. fields.kind ≡ kind_in header.now) }
         ensures number { IfOk result (λ fields. fields.number ≡ number_in header.now) }
         ensures count { IfOk result (λ fields. fields.count ≡ count_in header.now) }
+        ensures spelled { IfOk result (λ fields. fields.kind ≡ MessageKind.End → header.now ≡ spelling (message.End fields.number)) }
         ensures refused { IfErr result (λ error. header_fault self.now.history self.now.entry self.now.last header.now ≡ Some error) }
         ensures no_fault { IfErr result (λ error. error ≢ StreamError.ReadFault) }
     {
