@@ -26,3 +26,13 @@ missing-from_one frames last i d below = filter-from (λ n. not (has_frame frame
 pub missing-grows : (frames : List StreamFrame) (last i j d : ℕ) → i < j → j < length (missing_from frames last)
     → get_or (missing_from frames last) i d < get_or (missing_from frames last) j d
 missing-grows frames last i j d less below = filter-grows (λ n. not (has_frame frames n)) 1 last i j d less below
+
+pub from_one-at : (frames : List StreamFrame) (last : ℕ) (missing : List ℕ) → missing ≡ missing_from frames last
+    → (i d : ℕ) → i < length missing → 1 ≤ get_or missing i d
+from_one-at frames last missing is =
+    subst (λ (xs : List ℕ). (i d : ℕ) → i < length xs → 1 ≤ get_or xs i d) (sym is) (missing-from_one frames last)
+
+pub grows-at : (frames : List StreamFrame) (last : ℕ) (missing : List ℕ) → missing ≡ missing_from frames last
+    → (i j d : ℕ) → i < j → j < length missing → get_or missing i d < get_or missing j d
+grows-at frames last missing is =
+    subst (λ (xs : List ℕ). (i j d : ℕ) → i < j → j < length xs → get_or xs i d < get_or xs j d) (sym is) (missing-grows frames last)

@@ -189,3 +189,28 @@ entry-refuses program shape (Some bytes) start (Some rest) rows missing count er
       spelled = subst (λ (s : Option (List ℕ)). LeavesBehind shape.history taken.frames s (Some rest)) header.1 taken.behind;
       first_test = told found taken.frames taken.stands;
     })
+
+-- the same, where the history is told by another name
+pub entry-refuses_at : (program : ℕ) (shape : Shape) (history : ℕ) → history ≡ shape.history → (old start mid : Option (List ℕ)) (rows : List Row) (missing : List ℕ)
+    (count : ℕ) (error : StreamError)
+    → IfSome old (λ bytes. (shape_of program bytes ≡ Ok shape) × (start ≡ Some (drop 8 bytes)))
+    → HasTakenFrames history start mid rows missing count
+    → IfSome mid (λ rest. IsFound error → (frames : List StreamFrame) → StandsFor history frames rows missing count → entry_fault history frames rest ≡ Some error)
+    → IfSome old (λ bytes. IsFound error → IsReading program bytes (Err error))
+entry-refuses_at program shape history is old start mid rows missing count error header taken told =
+    entry-refuses program shape old start mid rows missing count error header
+    (subst (λ (h : ℕ). HasTakenFrames h start mid rows missing count) is taken)
+    (subst (λ (h : ℕ). IfSome mid (λ rest. IsFound error → (frames : List StreamFrame) → StandsFor h frames rows missing count → entry_fault h frames rest ≡ Some error)) is told)
+
+-- the plan of a whole stream
+pub stream-told_at : (program : ℕ) (shape : Shape) (history : ℕ) → history ≡ shape.history → (old start new : Option (List ℕ)) (rows : List Row) (missing : List ℕ)
+    (plan : Plan) (link : Link)
+    → IfSome old (λ bytes. (shape_of program bytes ≡ Ok shape) × (start ≡ Some (drop 8 bytes)))
+    → HasTakenAll history start new rows missing
+    → plan.rows ≡ rows → plan.cores ≡ shape.cores → plan.history ≡ history → plan.link ≡ link
+    → link ≡ record { drops = []; repeats = []; delays = []; missing = missing }
+    → IfSome old (λ bytes. IsStream program bytes plan)
+stream-told_at program shape history is old start new rows missing plan link header taken rows_are cores_are history_is link_is lost =
+    let all : HasTakenAll shape.history start new rows missing = subst (λ (h : ℕ). HasTakenAll h start new rows missing) is taken in
+    stream-told program shape old start new rows missing plan header all
+    (plan-told shape all.frames all.last plan rows missing link rows_are cores_are (history_is ∙ is) link_is lost all.rows_are all.missing_are)
