@@ -1,4 +1,4 @@
-use crate::{StreamError, read_stream, write_stream};
+use crate::{StreamError, one_reading, read_stream, write_stream, written_is_read};
 use scr_base::{MemSink, MemSource, OutOfMemory, Row};
 use scr_plan::{Delays, Drops, Link, RunPlan};
 use scr_wire::WireError;
@@ -16,7 +16,18 @@ const ROW: Row = Row {
     w6: 0,
 };
 
-// Its bytes.
+// The row of a packet that no frame carries.
+const NO_ROW: Row = Row {
+    w0: 0,
+    w1: 0,
+    w2: 0,
+    w3: 0,
+    w4: 0,
+    w5: 0,
+    w6: 0,
+};
+
+// The bytes of the first.
 const ROW_BYTES: [u8; 56] = [
     0, 0, 0, 0, 0, 0, 0, 0, 0, 0, 0, 0, 0x0A, 0, 0, 1, 0, 0, 0, 0, 0, 0, 0, 0, 0, 0, 0, 0, 0, 0, 0,
     0, 0, 0, 0, 0, 0, 0, 0, 3, 0, 0, 0, 0, 0, 0, 0, 0, 0, 0, 0, 0, 0, 0, 0, 0,
@@ -222,4 +233,35 @@ fn tells_of_a_fault(rt: HostRuntime) -> Result<(), Fail> {
         assert_eq!(rt; read.err(), Some(StreamError::ReadFault));
     }
     Ok(())
+}
+
+#[test]
+fn reads_what_was_written(rt: HostRuntime) -> Result<(), Fail> {
+    let alloc = rt.alloc();
+    let drops = match Drops::read(alloc, b"1,4") {
+        Ok(drops) => drops,
+        Err(_) => return Ok(assert!(rt; false)),
+    };
+    let rows = vec![in alloc; ROW; 4]?;
+    let plan = RunPlan::make(rows, 1, 0, Link::dropping(alloc, drops));
+    let mut out = MemSink::new(alloc, 1000, Vec::new(alloc));
+    assert!(rt; write_stream(alloc, 3, &plan, &mut out).is_ok());
+    let bytes = joined(alloc, &[out.written()])?;
+    let mut source = MemSource::new(bytes, 5, Vec::new(alloc));
+    match read_stream(alloc, 3, &mut source) {
+        Ok(read) => {
+            assert_eq!(rt; read.rows(), &[NO_ROW, ROW, ROW, NO_ROW]);
+            assert!(rt; !read.link().delivered(1, 4, 1));
+            assert!(rt; read.link().delivered(1, 4, 2));
+            assert!(rt; !read.link().delivered(1, 4, 4));
+        }
+        Err(_) => assert!(rt; false),
+    }
+    Ok(())
+}
+
+#[test]
+fn laws_are_called(_rt: HostRuntime) {
+    one_reading();
+    written_is_read();
 }

@@ -10,12 +10,12 @@ use Rattle.scr_stream.proofs.read.read_stream.Goals as goal
 
 pub returns-in_err-shape-clause-refused : goal.returns-in_err-shape-clause-refused
 returns-in_err-shape-clause-refused g c =
-    let p = err_from_is_err_and c.from_residual-in_err-shape.result c.from_residual-in_err-shape.ensures.1 in
+    let p = err_from_is_err_and c.from_residual.result c.from_residual.ensures.1 in
     rw (p.1, p.2) (header-refuses c.args.program _ _ c.in_err-shape.ensures.refused)
 
 pub returns-in_err-shape-clause-few : goal.returns-in_err-shape-clause-few
 returns-in_err-shape-clause-few g c =
-    let p = err_from_is_err_and c.from_residual-in_err-shape.result c.from_residual-in_err-shape.ensures.1 in
+    let p = err_from_is_err_and c.from_residual.result c.from_residual.ensures.1 in
     rw p.1 (GivesAtMost-more 8 most_bytes _ _ (omega arith) c.in_err-shape.ensures.few)
 
 pub loop-more-init : goal.loop-more-init
