@@ -250,7 +250,8 @@ fn reads_what_was_written(rt: HostRuntime) -> Result<(), Fail> {
     let mut source = MemSource::new(bytes, 5, Vec::new(alloc));
     match read_stream(alloc, 3, &mut source) {
         Ok(read) => {
-            assert_eq!(rt; read.rows(), &[NO_ROW, ROW, ROW, NO_ROW]);
+            let expected = [NO_ROW, ROW, ROW, NO_ROW];
+            assert_eq!(rt; read.rows(), expected.as_slice());
             assert!(rt; !read.link().delivered(1, 4, 1));
             assert!(rt; read.link().delivered(1, 4, 2));
             assert!(rt; !read.link().delivered(1, 4, 4));
