@@ -1,13 +1,13 @@
 -- Whether a frame differs from earlier ones, by the rows that were kept of them.
-use Rattle.std.proofs.Common.{◌≡◌, ◌≢◌, ◌⊎◌, ℕ, zero, suc, ◌+◌, ◌-◌, ◌<◌, ◌≤◌, Bool, true, false, not, ◌||◌, List, ◌++◌, length, Option, Some, None, refl, sym, ap, ◌∙◌, arith}
+use Rattle.std.proofs.Common.{◌≡◌, ◌≢◌, ℕ, zero, suc, ◌+◌, ◌-◌, ◌<◌, ◌≤◌, Bool, true, false, ◌||◌, List, length, Option, Some, None, refl, sym, ap, ◌∙◌, arith}
 use Rattle.std.specs.Prelude.{map, unwrap_or}
 use Rattle.std.specs.List.{list_any, range_with_len, slice_get}
 use Rattle.std.proofs.lemmas.List.Folds.{list_any-append}
 use Rattle.scr_base.specs.declared.row.Row.{Row}
 use Rattle.scr_plan.proofs.FromOne.{range-append}
 use Rattle.scr_stream.specs.Frames.{StreamFrame, carried_row, row_in, last_number}
-use Rattle.scr_stream.specs.Tests.{same_row, clash, differs}
-use Rattle.scr_stream.specs.Reading.{no_row, rows_from}
+use Rattle.scr_stream.specs.Tests.{clash, differs}
+use Rattle.scr_stream.specs.Reading.{no_row}
 use Rattle.scr_stream.specs.Taken.{StandsFor}
 use Rattle.scr_stream.proofs.Ranges.{any-same, any-none}
 use Rattle.scr_stream.proofs.RowsOfFrames.{carried-before}

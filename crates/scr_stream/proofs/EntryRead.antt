@@ -1,5 +1,5 @@
 -- An entry read of a source, by what was kept of the frames before it.
-use Rattle.std.proofs.Common.{◌≡◌, ◌≢◌, ℕ, ◌+◌, ◌-◌, ◌<◌, ◌≤◌, Bool, true, false, cond, List, [], ◌∷◌, ◌++◌, length, take, Option, Some, None, Result, Ok, Err, IfSome, refl, sym, ap, subst, ◌∙◌, inl, inr, arith, rules, tests}
+use Rattle.std.proofs.Common.{◌≡◌, ◌≢◌, ℕ, ◌+◌, ◌-◌, ◌<◌, ◌≤◌, true, List, ◌++◌, length, Option, Some, None, Ok, Err, IfSome, refl, sym, ap, subst, ◌∙◌, inl, inr, arith, rules, tests}
 use Rattle.std.specs.Prelude.{nat_lt, map}
 use Rattle.std.specs.List.{range_with_len}
 use Rattle.std.proofs.lemmas.Bool.{cases_lt}
@@ -106,7 +106,7 @@ passed-behind history frames rows missing count old mid header it stands = sym (
 pub frame-refused : (history : ℕ) (rows : List Row) (missing : List ℕ) (count : ℕ) (old mid : Option (List ℕ)) (header : List ℕ) (error : StreamError)
     → IsEntryHeader history rows count old mid header
     → IfSome mid (λ behind. IsFound error → (history : ℕ) (frames : List StreamFrame) → StandsFor history frames rows missing count
-      → header_fault history (length frames + 1) (last_number frames) header ≡ None → entry_fault history frames (header ++ behind) ≡ Some error)
+    → header_fault history (length frames + 1) (last_number frames) header ≡ None → entry_fault history frames (header ++ behind) ≡ Some error)
     → IfSome old (λ bytes. IsFound error → (frames : List StreamFrame) → StandsFor history frames rows missing count → entry_fault history frames bytes ≡ Some error)
 frame-refused history rows missing count None mid header error it told = tt
 frame-refused history rows missing count (Some bytes) None header error it told = absurd it.taken
@@ -118,8 +118,8 @@ frame-refused history rows missing count (Some bytes) (Some behind) header error
 pub frame-taken : (history : ℕ) (rows : List Row) (missing : List ℕ) (count : ℕ) (old mid new : Option (List ℕ)) (header : List ℕ)
     (new_rows : List Row) (new_missing : List ℕ) (new_count : ℕ) → IsEntryHeader history rows count old mid header
     → ((history : ℕ) (frames : List StreamFrame) → StandsFor history frames rows missing count
-      → header_fault history (length frames + 1) (last_number frames) header ≡ None
-      → TakesFrame history frames (prepend_known header mid) new new_rows new_missing new_count)
+    → header_fault history (length frames + 1) (last_number frames) header ≡ None
+    → TakesFrame history frames (prepend_known header mid) new new_rows new_missing new_count)
     → (frames : List StreamFrame) → StandsFor history frames rows missing count → TakesFrame history frames old new new_rows new_missing new_count
 frame-taken history rows missing count old mid new header new_rows new_missing new_count it told frames stands =
     TakesFrame-joined history frames old mid new header new_rows new_missing new_count it.taken

@@ -1,5 +1,5 @@
 -- An entry that stands where it may: it passes all tests, and its bytes tell what it is.
-use Rattle.std.proofs.Common.{◌≡◌, ℕ, ◌+◌, ◌*◌, ◌<◌, ◌≤◌, Bool, true, false, cond, not, ◌||◌, ◌&&◌, List, [], ◌∷◌, ◌++◌, length, take, drop, All, Option, Some, None, refl, sym, ap, subst, ◌∙◌, append_assoc, arith, eqb, rules, tests}
+use Rattle.std.proofs.Common.{◌≡◌, ℕ, ◌+◌, ◌*◌, ◌<◌, ◌≤◌, Bool, true, false, cond, not, ◌&&◌, List, [], ◌++◌, length, take, drop, All, Option, Some, None, refl, sym, ap, ◌∙◌, append_assoc, arith, eqb, rules, tests}
 use Rattle.std.specs.Prelude.{slice_index, nat_lt}
 use Rattle.std.proofs.lemmas.Bool.Decides.{nat_tests}
 use Rattle.std.proofs.lemmas.List.{length-append, append-nil, take_all, drop_at}
@@ -8,7 +8,6 @@ use Rattle.scr_base.specs.declared.row.Row.{Row}
 use Rattle.scr_plan.specs.Limits.{most_packets}
 use Rattle.scr_wire.specs.declared.error.WireError.{WireError}
 use Rattle.scr_wire.specs.declared.error.WireError.TheVariants as wire
-use Rattle.scr_wire.specs.declared.message.Message.{Message}
 use Rattle.scr_wire.specs.declared.message.Message.TheVariants as message
 use Rattle.scr_wire.specs.declared.message.MessageKind.{MessageKind}
 use Rattle.scr_wire.specs.declared.message.MessageKind.TheVariants.{Frame, Beacon, End}
@@ -19,11 +18,10 @@ use Rattle.scr_wire.specs.Spelling.{IsRow, HasSpelling, Spells, header_bytes, ro
 use Rattle.scr_wire.proofs.MessagesRead.{one_message_in}
 use Rattle.scr_wire.proofs.RowsRead.{length-rows_in, length-rows_bytes}
 use Rattle.scr_stream.specs.Frames.{StreamFrame, frame_bytes, last_number}
-use Rattle.scr_stream.specs.Tests.{kind_in, length_in, frame_in, header_refusal, message_fault, field_fault, is_misplaced, rows_due, header_fault, behind_fault, differs, either_fault, entry_fault}
+use Rattle.scr_stream.specs.Tests.{kind_in, length_in, frame_in, header_refusal, message_fault, field_fault, is_misplaced, rows_due, header_fault, behind_fault, differs, entry_fault}
 use Rattle.scr_stream.specs.Reading.{Follows}
-use Rattle.scr_stream.specs.declared.error.StreamError.{StreamError}
 use Rattle.scr_stream.specs.declared.error.StreamError.TheVariants as fault
-use Rattle.scr_stream.proofs.EntryTests.{behind-length, behind-mark, behind-version, behind-code, behind-count, byte-append, kind_in-append, number_in-append, count_in-append, frame_in-append, header_fault-append, header-passed}
+use Rattle.scr_stream.proofs.EntryTests.{behind-length, behind-mark, behind-version, behind-code, behind-count, byte-append, kind_in-append, number_in-append, count_in-append, frame_in-append, header-passed}
 
 guard : {E : Type 0} (b : Bool) (e : E) (rest : Option E) → cond b (Some e) rest ≡ None → (b ≡ false) × (rest ≡ None)
 guard true e rest none = absurd cc

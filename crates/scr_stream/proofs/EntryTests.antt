@@ -1,17 +1,17 @@
 -- The tests of an entry, from what was read of it.
-use Rattle.std.proofs.Common.{◌≡◌, ◌≢◌, ◌⊎◌, ℕ, zero, suc, ◌+◌, ◌*◌, ◌<◌, ◌≤◌, Bool, true, false, cond, ◌&&◌, not, List, [], ◌∷◌, ◌++◌, length, get_or, take, drop, Option, Some, None, refl, sym, ap, subst, ◌∙◌, inl, inr, arith, eqb, ltb, rules, tests}
+use Rattle.std.proofs.Common.{◌≡◌, ◌≢◌, ℕ, zero, suc, ◌+◌, ◌*◌, ◌<◌, ◌≤◌, Bool, true, false, cond, ◌&&◌, not, List, [], ◌∷◌, ◌++◌, length, take, drop, Option, Some, None, refl, sym, ap, ◌∙◌, inl, inr, arith, eqb, rules, tests}
 use Rattle.std.specs.Prelude.{slice_index, nat_lt}
 use Rattle.std.proofs.Math.ListN.{get_or-append}
 use Rattle.std.proofs.lemmas.Bool.{cases_lt}
 use Rattle.std.proofs.lemmas.Bool.Decides.{nat_tests}
-use Rattle.std.proofs.lemmas.List.{take_at, take_all, length-append, append-nil, length-drop, drop-append-le, drop-drop}
+use Rattle.std.proofs.lemmas.List.{take_at, take_all, length-append, append-nil, length-drop, drop-append-le}
 use Rattle.scr_base.specs.declared.row.Row.{Row}
 use Rattle.scr_pcap.specs.declared.format.Order.TheVariants.{Big}
 use Rattle.scr_pcap.proofs.FirstBytes.{number_at-append}
 use Rattle.scr_wire.specs.declared.error.WireError.{WireError}
 use Rattle.scr_wire.specs.declared.error.WireError.TheVariants as wire
 use Rattle.scr_wire.specs.declared.message.MessageKind.{MessageKind}
-use Rattle.scr_wire.specs.declared.message.MessageKind.TheVariants.{Frame, Beacon, End}
+use Rattle.scr_wire.specs.declared.message.MessageKind.TheVariants.{Frame, End}
 use Rattle.scr_wire.specs.Kinds.{is_code, kind_with, allows}
 use Rattle.scr_wire.specs.Reading.{word_at, row_in, number_in, count_in, rows_in}
 use Rattle.scr_wire.specs.Refusals.{has_mark, has_count, has_length, refusal}

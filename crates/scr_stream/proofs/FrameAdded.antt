@@ -1,5 +1,5 @@
 -- A frame behind others: what was kept of them, and what it adds.
-use Rattle.std.proofs.Common.{◌≡◌, ◌≢◌, ◌⊎◌, ℕ, zero, suc, ◌+◌, ◌-◌, ◌<◌, ◌≤◌, min, Bool, true, false, not, List, [], ◌∷◌, ◌++◌, length, Option, Some, None, refl, sym, ap, subst, ◌∙◌, inl, inr, arith, eqb}
+use Rattle.std.proofs.Common.{◌≡◌, ◌≢◌, ◌⊎◌, ℕ, suc, ◌+◌, ◌-◌, ◌<◌, ◌≤◌, Bool, true, false, not, List, [], ◌∷◌, ◌++◌, length, Option, Some, None, refl, sym, ap, ◌∙◌, inl, inr, arith, eqb}
 use Rattle.std.specs.Prelude.{map, filter, unwrap_or}
 use Rattle.std.specs.List.{range_with_len}
 use Rattle.std.proofs.lemmas.Bool.{cases_lt}
@@ -9,7 +9,6 @@ use Rattle.std.proofs.lemmas.List.Elements.{filter-append}
 use Rattle.scr_base.specs.declared.row.Row.{Row}
 use Rattle.scr_plan.proofs.FromOne.{range-append, range-suc}
 use Rattle.scr_stream.specs.Frames.{StreamFrame, carried_row, first_of, row_in, has_frame, last_number}
-use Rattle.scr_stream.specs.Tests.{rows_due}
 use Rattle.scr_stream.specs.Reading.{Follows, no_row, rows_from, missing_from}
 use Rattle.scr_stream.specs.Taken.{StandsFor}
 use Rattle.scr_stream.proofs.Ranges.{map-same, filter-same, filter-all}
@@ -112,12 +111,14 @@ module _ (history : ℕ) (frames : List StreamFrame) (it : StreamFrame) (rows : 
           let other : eqb it.number p ≡ false = grind (arith, nat_tests) in
           let more = has_frame-more frames it p in
           grind (arith, nat_tests, more, other)
+
       between : (p : ℕ) → last < p → p < it.number → not (has_frame all p) ≡ true
       between p from to =
           let other : eqb it.number p ≡ false = grind (arith, nat_tests) in
           let none = has_frame-above frames p from in
           let more = has_frame-more frames it p in
           grind (arith, nat_tests, more, other, none)
+
       own : filter (λ n. not (has_frame all n)) (it.number ∷ []) ≡ []
       own =
           let same : eqb it.number it.number ≡ true = grind (arith, nat_tests) in

@@ -1,5 +1,5 @@
 -- A frame read of a source, behind its header.
-use Rattle.std.proofs.Common.{◌≡◌, ℕ, ◌+◌, ◌*◌, ◌<◌, ◌≤◌, true, false, List, [], ◌∷◌, ◌++◌, length, take, drop, Option, Some, None, Result, Ok, Err, IfSome, IfErr, OnOk, refl, sym, ap, subst, ◌∙◌, append_assoc, arith}
+use Rattle.std.proofs.Common.{◌≡◌, ℕ, ◌+◌, ◌*◌, ◌<◌, ◌≤◌, true, false, List, [], ◌∷◌, ◌++◌, length, take, Option, Some, None, Result, Ok, Err, IfSome, IfErr, OnOk, sym, ap, subst, ◌∙◌, append_assoc, arith}
 use Rattle.std.proofs.lemmas.List.{length-append, length-take, length-take-le, take_at, take_all, append-nil}
 use Rattle.std.specs.Io.KnownBytes.{Consumes, IsAtEnd, prepend_known}
 use Rattle.scr_base.specs.declared.row.Row.{Row}
@@ -23,7 +23,7 @@ use Rattle.scr_stream.proofs.FrameTaken.{frame-spelled, frame-follows, frame-in,
 pub cut-told : (last : ℕ) (header all : List ℕ) (old new : Option (List ℕ)) → IsFrameHeader last header → IsFilledBehind header old new all
     → length all < 10 + 56 * count_in header → IsAtEnd new
     → IfSome old (λ behind. (history : ℕ) (frames : List StreamFrame) → header_fault history (length frames + 1) (last_number frames) header ≡ None
-      → entry_fault history frames (header ++ behind) ≡ Some (fault.Cut (length frames + 1)))
+    → entry_fault history frames (header ++ behind) ≡ Some (fault.Cut (length frames + 1)))
 cut-told last header all None new is filled short end = tt
 cut-told last header all (Some behind) None is filled short end = absurd filled.taken
 cut-told last header all (Some behind) (Some left) is filled short end = λ history frames passed.
@@ -37,7 +37,7 @@ cut-told last header all (Some behind) (Some left) is filled short end = λ hist
 pub differs-told : (last : ℕ) (header all : List ℕ) (old new : Option (List ℕ)) (it : Message) → IsFrameHeader last header → IsFilledBehind header old new all
     → length all ≡ 10 + 56 * count_in header → Spells it all
     → IfSome old (λ behind. (history : ℕ) (frames : List StreamFrame) → header_fault history (length frames + 1) (last_number frames) header ≡ None
-      → differs frames (frame_of it) ≡ true → entry_fault history frames (header ++ behind) ≡ Some (fault.Differs (length frames + 1)))
+    → differs frames (frame_of it) ≡ true → entry_fault history frames (header ++ behind) ≡ Some (fault.Differs (length frames + 1)))
 differs-told last header all None new it is filled whole spells = tt
 differs-told last header all (Some behind) None it is filled whole spells = absurd filled.taken
 differs-told last header all (Some behind) (Some left) it is filled whole spells = λ history frames passed differ.
@@ -101,8 +101,8 @@ frame-numbers last header all old new it is filled spells =
 pub cut-refused : (last count : ℕ) (rows : List Row) (missing : List ℕ) (header all : List ℕ) (old new : Option (List ℕ)) → IsFrameHeader last header
     → IsFilledBehind header old new all → length all < 10 + 56 * count_in header → IsAtEnd new
     → IfSome old (λ behind. IsFound (fault.Cut (count + 1)) → (history : ℕ) (frames : List StreamFrame) → StandsFor history frames rows missing count
-      → header_fault history (length frames + 1) (last_number frames) header ≡ None
-      → entry_fault history frames (header ++ behind) ≡ Some (fault.Cut (count + 1)))
+    → header_fault history (length frames + 1) (last_number frames) header ≡ None
+    → entry_fault history frames (header ++ behind) ≡ Some (fault.Cut (count + 1)))
 cut-refused last count rows missing header all None new is filled short end = tt
 cut-refused last count rows missing header all (Some behind) new is filled short end = λ found history frames stands passed.
     cut-told last header all (Some behind) new is filled short end history frames passed
@@ -122,11 +122,11 @@ frame-reads last header all old new cause is filled whole refused =
 pub added-told : {T : Type 0} (result : Result T StreamError) (last : ℕ) (header all : List ℕ) (old new : Option (List ℕ)) (it : Message)
     (rows new_rows : List Row) (missing new_missing : List ℕ) (count new_count : ℕ) → IsFrameHeader last header → IsFilledBehind header old new all → Spells it all
     → OnOk result ((history : ℕ) (frames : List StreamFrame) → StandsFor history frames rows missing count
-      → length (rows_of it) ≡ rows_due history (number_of it)
-      → (differs frames (frame_of it) ≡ false) × ((Follows history frames (frame_of it)) → StandsFor history (frames ++ frame_of it ∷ []) new_rows new_missing new_count))
+    → length (rows_of it) ≡ rows_due history (number_of it)
+    → (differs frames (frame_of it) ≡ false) × ((Follows history frames (frame_of it)) → StandsFor history (frames ++ frame_of it ∷ []) new_rows new_missing new_count))
     → OnOk result ((history : ℕ) (frames : List StreamFrame) → StandsFor history frames rows missing count
-      → header_fault history (length frames + 1) (last_number frames) header ≡ None
-      → TakesFrame history frames (prepend_known header old) new new_rows new_missing new_count)
+    → header_fault history (length frames + 1) (last_number frames) header ≡ None
+    → TakesFrame history frames (prepend_known header old) new new_rows new_missing new_count)
 added-told (Err error) last header all old new it rows new_rows missing new_missing count new_count is filled spells added = tt
 added-told (Ok x) last header all old new it rows new_rows missing new_missing count new_count is filled spells added = λ history frames stands passed.
     let there = subst (Spells it) filled.parts spells in
@@ -137,11 +137,11 @@ added-told (Ok x) last header all old new it rows new_rows missing new_missing c
 pub added-refused : {T : Type 0} (result : Result T StreamError) (last : ℕ) (header all : List ℕ) (old new : Option (List ℕ)) (it : Message)
     (rows : List Row) (missing : List ℕ) (count : ℕ) → IsFrameHeader last header → IsFilledBehind header old new all → length all ≡ 10 + 56 * count_in header → Spells it all
     → IfErr result (λ error. IsFound error → (error ≡ fault.Differs (count + 1))
-      × ((history : ℕ) (frames : List StreamFrame) → StandsFor history frames rows missing count
-      → length (rows_of it) ≡ rows_due history (number_of it) → differs frames (frame_of it) ≡ true))
+    × ((history : ℕ) (frames : List StreamFrame) → StandsFor history frames rows missing count
+    → length (rows_of it) ≡ rows_due history (number_of it) → differs frames (frame_of it) ≡ true))
     → IfSome old (λ behind. IfErr result (λ error. IsFound error → (history : ℕ) (frames : List StreamFrame)
-      → StandsFor history frames rows missing count → header_fault history (length frames + 1) (last_number frames) header ≡ None
-      → entry_fault history frames (header ++ behind) ≡ Some error))
+    → StandsFor history frames rows missing count → header_fault history (length frames + 1) (last_number frames) header ≡ None
+    → entry_fault history frames (header ++ behind) ≡ Some error))
 added-refused result last header all None new it rows missing count is filled whole spells refused = tt
 added-refused (Ok x) last header all (Some behind) new it rows missing count is filled whole spells refused = tt
 added-refused (Err error) last header all (Some behind) new it rows missing count is filled whole spells refused = λ found history frames stands passed.

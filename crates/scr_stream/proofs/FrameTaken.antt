@@ -1,15 +1,14 @@
 -- A frame that was read behind others: its bytes, and that it may stand there.
-use Rattle.std.proofs.Common.{◌≡◌, ℕ, zero, suc, ◌+◌, ◌*◌, ◌<◌, ◌≤◌, Bool, true, false, cond, not, ◌||◌, List, [], ◌∷◌, ◌++◌, length, drop, Option, Some, None, refl, sym, ap, subst, ◌∙◌, arith, eqb}
+use Rattle.std.proofs.Common.{◌≡◌, ℕ, zero, suc, ◌+◌, ◌<◌, ◌≤◌, Bool, true, false, cond, not, ◌||◌, List, ◌++◌, length, drop, Option, Some, None, refl, sym, ap, subst, ◌∙◌, arith, eqb}
 use Rattle.std.specs.Prelude.{nat_lt, nat_le}
 use Rattle.std.proofs.lemmas.Bool.Decides.{nat_tests}
 use Rattle.std.proofs.lemmas.List.{drop_at}
-use Rattle.scr_base.specs.declared.row.Row.{Row}
 use Rattle.scr_plan.specs.Limits.{most_packets, longest_history}
 use Rattle.scr_wire.specs.declared.message.Message.{Message}
 use Rattle.scr_wire.specs.declared.message.Message.TheVariants as message
 use Rattle.scr_wire.specs.declared.message.MessageKind.{MessageKind}
-use Rattle.scr_wire.specs.declared.message.MessageKind.TheVariants.{Frame, Beacon, End}
-use Rattle.scr_wire.specs.Reading.{number_in, count_in, rows_in, message_of, message_in}
+use Rattle.scr_wire.specs.declared.message.MessageKind.TheVariants.{Frame, End}
+use Rattle.scr_wire.specs.Reading.{number_in, count_in, rows_in, message_of}
 use Rattle.scr_wire.specs.Spelling.{Spells, HasSpelling, spelling, number_of, rows_of}
 use Rattle.scr_wire.proofs.MessagesRead.{one_message_in}
 use Rattle.scr_stream.specs.Frames.{StreamFrame, frame_of, frame_bytes, last_number}
@@ -27,7 +26,6 @@ guard false e rest none = (refl, none)
 neither : (a b : Bool) → (a || b) ≡ false → (a ≡ false) × (b ≡ false)
 neither true b none = absurd cc
 neither false b none = (refl, none)
-
 
 -- what the tests of a frame's header tell
 pub frame-fields : (history entry last number count : ℕ) → field_fault history entry last Frame number count ≡ None

@@ -1,5 +1,5 @@
 -- Frames in front of bytes, and the numbers that have none.
-use Rattle.std.proofs.Common.{◌≡◌, ℕ, ◌<◌, ◌≤◌, Bool, not, List, [], ◌∷◌, ◌++◌, length, get_or, refl, sym, subst, ◌∙◌, append_assoc}
+use Rattle.std.proofs.Common.{◌≡◌, ℕ, ◌<◌, ◌≤◌, not, List, [], ◌∷◌, ◌++◌, length, get_or, refl, sym, subst, ◌∙◌, append_assoc}
 use Rattle.std.proofs.lemmas.List.{append-nil}
 use Rattle.scr_stream.specs.Frames.{StreamFrame, frame_bytes, has_frame}
 use Rattle.scr_stream.specs.Reading.{Follows, BeginWith, missing_from}
@@ -12,12 +12,12 @@ pub BeginWith-more : (history : ℕ) (earlier frames : List StreamFrame) (it : S
 BeginWith-more history earlier [] it bytes middle rest begins parts follows =
     (rest, begins ∙ parts, subst (λ (all : List StreamFrame). Follows history all it) (append-nil earlier) follows, refl)
 BeginWith-more history earlier (first ∷ frames) it bytes middle rest begins parts follows = (
-    begins.0,
-    begins.1,
-    begins.2,
-    BeginWith-more history (earlier ++ first ∷ []) frames it begins.0 middle rest begins.3 parts
-    (subst (λ (all : List StreamFrame). Follows history all it) (sym (append_assoc earlier (first ∷ []) frames)) follows),
-  )
+  begins.0,
+  begins.1,
+  begins.2,
+  BeginWith-more history (earlier ++ first ∷ []) frames it begins.0 middle rest begins.3 parts
+      (subst (λ (all : List StreamFrame). Follows history all it) (sym (append_assoc earlier (first ∷ []) frames)) follows),
+)
 
 -- numbers without a frame are from 1 on, and grow
 pub missing-from_one : (frames : List StreamFrame) (last i d : ℕ) → i < length (missing_from frames last) → 1 ≤ get_or (missing_from frames last) i d

@@ -1,7 +1,6 @@
 -- The header of a stream, from the first bytes that were read.
-use Rattle.std.proofs.Common.{◌≡◌, ℕ, ◌+◌, ◌<◌, ◌≤◌, Bool, true, false, cond, not, List, [], ◌++◌, length, take, drop, get_or, Option, Some, None, Result, Ok, Err, IfSome, IfOk, IfErr, refl, sym, ap, ◌∙◌, inl, inr, arith, rules, tests}
+use Rattle.std.proofs.Common.{◌≡◌, ℕ, ◌<◌, ◌≤◌, true, false, List, [], ◌++◌, length, drop, Option, Some, None, Result, Ok, Err, IfSome, IfOk, IfErr, sym, ap, ◌∙◌, inl, inr, arith, rules, tests}
 use Rattle.std.specs.Prelude.{slice_index, nat_lt}
-use Rattle.std.specs.Io.KnownBytes.{Consumes, IsAtEnd}
 use Rattle.std.proofs.Math.ListN.{get_or-append}
 use Rattle.std.proofs.lemmas.Bool.{cases_lt}
 use Rattle.std.proofs.lemmas.List.{length-append, append-nil, drop_at}

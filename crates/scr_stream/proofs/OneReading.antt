@@ -1,19 +1,18 @@
 -- A list of bytes has one reading.
-use Rattle.std.proofs.Common.{◌≡◌, ◌⊎◌, ℕ, ◌+◌, ◌≤◌, ◌<◌, List, [], ◌∷◌, ◌++◌, length, drop, Option, Some, None, Result, Ok, Err, refl, sym, ap, subst, ◌∙◌, append_assoc, inl, inr}
+use Rattle.std.proofs.Common.{◌≡◌, ℕ, ◌≤◌, List, [], ◌∷◌, ◌++◌, drop, Some, None, Result, Ok, Err, refl, sym, ap, subst, ◌∙◌, append_assoc, inl, inr}
 use Rattle.std.proofs.lemmas.List.{append-nil}
 use Rattle.scr_plan.specs.Limits.{most_packets}
 use Rattle.scr_plan.specs.Plan.{Plan}
 use Rattle.scr_wire.specs.declared.message.Message.TheVariants as message
-use Rattle.scr_wire.specs.declared.message.MessageKind.{MessageKind}
 use Rattle.scr_wire.specs.declared.message.MessageKind.TheVariants.{Frame, End}
 use Rattle.scr_wire.specs.Reading.{number_in}
 use Rattle.scr_wire.specs.Spelling.{spelling}
-use Rattle.scr_stream.specs.Frames.{StreamFrame, frame_bytes, last_number}
+use Rattle.scr_stream.specs.Frames.{StreamFrame, frame_bytes}
 use Rattle.scr_stream.specs.Tests.{shape_of, kind_in, length_in, frame_in, entry_fault}
 use Rattle.scr_stream.specs.Reading.{Follows, BeginWith, plan_from, IsStream, IsCutShort, IsReading}
 use Rattle.scr_stream.specs.declared.error.StreamError.{StreamError}
 use Rattle.scr_stream.specs.declared.header.Shape.{Shape}
-use Rattle.scr_stream.proofs.EntryStands.{frame-kind, frame-length, frame-behind, frame-itself, frame-passes, end-kind, end-number, end-passes}
+use Rattle.scr_stream.proofs.EntryStands.{frame-kind, frame-behind, frame-itself, frame-passes, end-kind, end-number, end-passes}
 
 -- the bytes tell the frame in front and what stands behind it
 same-first : (bytes : List ℕ) (history : ℕ) (frames : List StreamFrame) (it other : StreamFrame) (behind behind' : List ℕ)

@@ -1,7 +1,6 @@
 -- A whole stream, taken entry by entry.
-use Rattle.std.proofs.Common.{◌≡◌, ◌≢◌, ℕ, ◌+◌, ◌-◌, ◌<◌, ◌≤◌, Bool, true, false, List, [], ◌∷◌, ◌++◌, length, drop, Option, Some, None, Ok, Err, IfSome, refl, sym, ap, subst, ◌∙◌, inl, inr, arith}
-use Rattle.std.specs.Prelude.{map, unwrap_or}
-use Rattle.std.specs.List.{range_with_len}
+use Rattle.std.proofs.Common.{◌≡◌, ℕ, ◌+◌, ◌-◌, ◌<◌, ◌≤◌, Bool, true, false, List, [], ◌∷◌, ◌++◌, length, drop, Option, Some, None, Ok, Err, IfSome, refl, sym, ap, subst, ◌∙◌, inl, inr, arith}
+use Rattle.std.specs.Prelude.{unwrap_or}
 use Rattle.std.proofs.lemmas.List.FromFn.{length-map-range_with_len}
 use Rattle.std.proofs.lemmas.List.{append-nil}
 use Rattle.std.specs.Io.KnownBytes.{Consumes, IsAtEnd}
@@ -14,7 +13,7 @@ use Rattle.scr_wire.specs.Spelling.{spelling}
 use Rattle.scr_stream.specs.Frames.{StreamFrame, frame_bytes, row_in, last_number}
 use Rattle.scr_stream.specs.Tests.{shape_of, entry_fault}
 use Rattle.scr_stream.specs.Reading.{Follows, BeginWith, no_row, rows_from, missing_from, plan_from, IsStream, IsReading}
-use Rattle.scr_stream.specs.Taken.{StandsFor, IsFound, TakesFrame, TakesEnd, TakesEntry, LeavesBehind, HasTakenFrames, HasTakenAll, HasTaken}
+use Rattle.scr_stream.specs.Taken.{StandsFor, IsFound, TakesEntry, LeavesBehind, HasTakenFrames, HasTakenAll, HasTaken}
 use Rattle.scr_stream.specs.declared.header.Shape.{Shape}
 use Rattle.scr_stream.specs.declared.error.StreamError.{StreamError}
 use Rattle.scr_stream.proofs.FramesInFront.{BeginWith-more}

@@ -1,15 +1,14 @@
 -- What was written of a plan is read as a plan of the same run.
-use Rattle.std.proofs.Common.{◌≡◌, ◌≢◌, ◌⊎◌, ℕ, zero, suc, ◌+◌, ◌-◌, ◌<◌, ◌≤◌, Bool, true, false, cond, not, ◌&&◌, ◌||◌, List, [], ◌∷◌, ◌++◌, length, drop, All, Option, Some, None, Ok, refl, sym, ap, subst, ◌∙◌, inl, inr, arith, eqb, leb}
-use Rattle.std.specs.Prelude.{map, filter, unwrap_or, slice_get}
-use Rattle.std.specs.List.{flat_map, list_any, range_with_len}
+use Rattle.std.proofs.Common.{◌≡◌, ◌≢◌, ◌⊎◌, ℕ, zero, suc, ◌+◌, ◌-◌, ◌<◌, ◌≤◌, Bool, true, false, not, ◌&&◌, List, [], ◌∷◌, ◌++◌, length, All, Option, Some, None, Ok, refl, sym, ap, ◌∙◌, inl, inr, arith, eqb}
+use Rattle.std.specs.Prelude.{unwrap_or, slice_get}
+use Rattle.std.specs.List.{list_any, range_with_len}
 use Rattle.std.proofs.lemmas.Bool.{cases_lt, false_from_ne_true}
 use Rattle.std.proofs.lemmas.Bool.Decides.{nat_tests}
 use Rattle.std.proofs.lemmas.List.FromFn.{length-map-range_with_len}
 use Rattle.std.proofs.lemmas.Map.Views.{any-filter_same}
-use Rattle.std.proofs.lemmas.Option.{slice_get_past}
 use Rattle.scr_base.specs.declared.row.Row.{Row}
 use Rattle.scr_plan.specs.Drops.{has_number}
-use Rattle.scr_plan.specs.Delays.{greatest_delay, delay_of}
+use Rattle.scr_plan.specs.Delays.{delay_of}
 use Rattle.scr_plan.specs.Link.{loses}
 use Rattle.scr_plan.specs.Plan.{Plan, IsPlan, HasParts, frame_count, row_of}
 use Rattle.scr_plan.specs.Delivered.{delivers}
@@ -21,14 +20,14 @@ use Rattle.scr_plan.proofs.Steps.{sends-within}
 use Rattle.scr_wire.specs.declared.message.Message.TheVariants.{End}
 use Rattle.scr_wire.specs.Spelling.{IsRow, spelling}
 use Rattle.scr_stream.specs.Streamed.{streamed, stream_header, frames_of}
-use Rattle.scr_stream.specs.Frames.{StreamFrame, carried_row, row_in, has_frame, last_number}
+use Rattle.scr_stream.specs.Frames.{StreamFrame, carried_row, row_in, has_frame}
 use Rattle.scr_stream.specs.Tests.{shape_of, has_shape}
-use Rattle.scr_stream.specs.Reading.{BeginWith, no_row, missing_from, rows_from, plan_from, IsStream, IsReading}
+use Rattle.scr_stream.specs.Reading.{no_row, plan_from, IsReading}
 use Rattle.scr_stream.specs.SameRun.{IsSameRun}
 use Rattle.scr_stream.specs.declared.header.Shape.{Shape}
 use Rattle.scr_stream.proofs.Differing.{got}
 use Rattle.scr_stream.proofs.Ranges.{any-same, any-found}
-use Rattle.scr_stream.proofs.RowsWritten.{written, Agrees, Earlier-none, written-carries}
+use Rattle.scr_stream.proofs.RowsWritten.{written, Earlier-none, written-carries}
 use Rattle.scr_stream.proofs.FramesWritten.{written_from, written-begin, written-numbers, written-last, written-rows, written-there}
 
 -- an undelivered frame is no frame of the run, or doesn't come in time

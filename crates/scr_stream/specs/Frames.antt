@@ -1,5 +1,5 @@
 -- The frames of a stream, and the rows that they carry. Packets and frames are numbered from 1.
-use Rattle.std.specs.Prelude.{ℕ, ◌+◌, ◌-◌, max, Bool, not, List, [], ◌∷◌, length, Option, Some, None, ◌==◌, nat_le, if◌then◌else◌}
+use Rattle.std.specs.Prelude.{ℕ, ◌+◌, ◌-◌, max, Bool, List, [], ◌∷◌, length, Option, Some, None, ◌==◌, nat_le, if◌then◌else◌}
 use Rattle.std.specs.List.{list_any, slice_get}
 use Rattle.scr_base.specs.declared.row.Row.{Row}
 use Rattle.scr_wire.specs.declared.message.Message.{Message}

@@ -19,6 +19,7 @@ pub(crate) const ROW: usize = 56;
 
 /// The mark in front of a stream, and the version behind it.
 pub(crate) const MARK: [u8; 4] = [0x53, 0x43, 0x52, 0x53];
+
 pub(crate) const VERSION: u8 = 1;
 
 // The header of a stream.

@@ -38,12 +38,7 @@ pub fn read_stream<S: Source>(
         more = taken.take_entry(history, source, &mut buffer)?;
     }
     let link = Link::lost(alloc, taken.missing);
-    Ok(RunPlan::make(
-        taken.rows,
-        u32::from(shape.cores),
-        history,
-        link,
-    ))
+    Ok(RunPlan::make(taken.rows, u32::from(shape.cores), history, link))
 }
 
 // Takes the header of a stream.

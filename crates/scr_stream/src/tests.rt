@@ -168,7 +168,7 @@ fn refusal_of(alloc: Global, program: u8, bytes: Vec<u8>, limit: usize) -> Optio
 }
 
 #[test]
-fn refuses_what_is_cut_or_changed(rt: HostRuntime) -> Result<(), Fail> {
+fn refuses_what_is_cut(rt: HostRuntime) -> Result<(), Fail> {
     let alloc = rt.alloc();
     // The first bytes alone.
     for count in 0..328 {
@@ -183,8 +183,29 @@ fn refuses_what_is_cut_or_changed(rt: HostRuntime) -> Result<(), Fail> {
         };
         assert_eq!(rt; refusal_of(alloc, 0, bytes, 7), Some(expected));
     }
-    assert_eq!(rt; refusal_of(alloc, 1, worked(alloc)?, 16), Some(StreamError::Program));
-    // One byte of another value.
+    Ok(())
+}
+
+#[test]
+fn refuses_another_program_and_more_bytes(rt: HostRuntime) -> Result<(), Fail> {
+    let alloc = rt.alloc();
+    assert_eq!(rt;
+        refusal_of(alloc, 1, worked(alloc)?, 16),
+        Some(StreamError::Program)
+    );
+    let mut bytes = worked(alloc)?;
+    bytes.push(0)?;
+    assert_eq!(rt;
+        refusal_of(alloc, 0, bytes, 16),
+        Some(StreamError::Trailing)
+    );
+    Ok(())
+}
+
+// The stream with one byte of another value.
+#[test]
+fn refuses_what_is_changed(rt: HostRuntime) -> Result<(), Fail> {
+    let alloc = rt.alloc();
     let cases = [
         (0, 0x54, StreamError::Mark),
         (3, 0x54, StreamError::Mark),
@@ -195,32 +216,85 @@ fn refuses_what_is_cut_or_changed(rt: HostRuntime) -> Result<(), Fail> {
         (7, 65, StreamError::Shape),
         (7, 2, StreamError::Rows { entry: 2 }),
         (7, 0, StreamError::Rows { entry: 2 }),
-        (8, 0, StreamError::Message { entry: 1, cause: WireError::Mark }),
-        (10, 1, StreamError::Message { entry: 1, cause: WireError::Version }),
-        (11, 4, StreamError::Message { entry: 1, cause: WireError::Kind }),
-        (11, 2, StreamError::Message { entry: 1, cause: WireError::Count }),
-        (17, 0, StreamError::Message { entry: 1, cause: WireError::Count }),
-        (15, 0, StreamError::Message { entry: 1, cause: WireError::Count }),
+        (
+            8,
+            0,
+            StreamError::Message {
+                entry: 1,
+                cause: WireError::Mark,
+            },
+        ),
+        (
+            10,
+            1,
+            StreamError::Message {
+                entry: 1,
+                cause: WireError::Version,
+            },
+        ),
+        (
+            11,
+            4,
+            StreamError::Message {
+                entry: 1,
+                cause: WireError::Kind,
+            },
+        ),
+        (
+            11,
+            2,
+            StreamError::Message {
+                entry: 1,
+                cause: WireError::Count,
+            },
+        ),
+        (
+            17,
+            0,
+            StreamError::Message {
+                entry: 1,
+                cause: WireError::Count,
+            },
+        ),
+        (
+            15,
+            0,
+            StreamError::Message {
+                entry: 1,
+                cause: WireError::Count,
+            },
+        ),
         (15, 2, StreamError::Rows { entry: 1 }),
-        (81, 1, StreamError::Message { entry: 2, cause: WireError::Count }),
+        (
+            81,
+            1,
+            StreamError::Message {
+                entry: 2,
+                cause: WireError::Count,
+            },
+        ),
         (203, 3, StreamError::Number { entry: 3 }),
         (203, 2, StreamError::Number { entry: 3 }),
         (201, 0x10, StreamError::Number { entry: 3 }),
         (321, 2, StreamError::Beacon { entry: 4 }),
         (325, 3, StreamError::Number { entry: 4 }),
         (323, 0x10, StreamError::Number { entry: 4 }),
-        (327, 1, StreamError::Message { entry: 4, cause: WireError::Count }),
+        (
+            327,
+            1,
+            StreamError::Message {
+                entry: 4,
+                cause: WireError::Count,
+            },
+        ),
         (206, 1, StreamError::Differs { entry: 3 }),
         (261, 1, StreamError::Differs { entry: 3 }),
     ];
     for (place, value, expected) in cases {
         let mut bytes = worked(alloc)?;
-        bytes[place] = value;
+        *bytes.get_mut(place).ok_or("a place")? = value;
         assert_eq!(rt; refusal_of(alloc, 0, bytes, 16), Some(expected));
     }
-    let mut bytes = worked(alloc)?;
-    bytes.push(0)?;
-    assert_eq!(rt; refusal_of(alloc, 0, bytes, 16), Some(StreamError::Trailing));
     Ok(())
 }
 

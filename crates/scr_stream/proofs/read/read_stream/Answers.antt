@@ -1,4 +1,4 @@
-use Rattle.std.proofs.Common.{◌≡◌, ◌≤◌, ◌<◌, Bool, length, sym, ap, subst, ◌∙◌, refl, arith}
+use Rattle.std.proofs.Common.{◌<◌, Bool, length, sym, subst, ◌∙◌, refl, arith}
 use Rattle.std.proofs.lemmas.Result.{err_from_is_err_and}
 use Rattle.scr_pcap.proofs.Sizes.{GivesAtMost-more}
 use Rattle.scr_stream.specs.Taken.{most_bytes}
@@ -124,4 +124,3 @@ returns-clause-counts g c =
       failed = λ is. absurd cc;
       other = λ _. c.loop-more.invariant.counts ∙ c.in_ok-shape.ensures.counts.other (λ e. cc);
     }
-

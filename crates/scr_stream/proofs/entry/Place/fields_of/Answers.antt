@@ -1,4 +1,4 @@
-use Rattle.std.proofs.Common.{ℕ, List, ap, sym, ◌∙◌, arith}
+use Rattle.std.proofs.Common.{ℕ, ap, sym, ◌∙◌, arith}
 use Rattle.scr_wire.specs.declared.message.Message.TheVariants.{End}
 use Rattle.scr_wire.specs.Spelling.{spelling}
 use Rattle.scr_stream.proofs.EndRead.{end-spelled}

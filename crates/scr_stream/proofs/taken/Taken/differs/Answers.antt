@@ -1,6 +1,5 @@
-use Rattle.std.proofs.Common.{◌≡◌, ◌<◌, ◌≤◌, ◌+◌, ◌-◌, ℕ, Bool, true, false, sym, ap, ◌∙◌, arith}
-use Rattle.std.specs.Prelude.{length}
-use Rattle.std.specs.List.{list_any, range_with_len, slice_get}
+use Rattle.std.proofs.Common.{◌≡◌, ◌-◌, ℕ, Bool, true, sym, ◌∙◌, arith}
+use Rattle.std.specs.List.{slice_get}
 use Rattle.scr_stream.specs.Frames.{frame_of, carried_row}
 use Rattle.scr_stream.specs.Tests.{clash}
 use Rattle.scr_stream.proofs.Ranges.{any-found, any-step}

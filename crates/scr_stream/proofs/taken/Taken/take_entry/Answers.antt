@@ -1,4 +1,4 @@
-use Rattle.std.proofs.Common.{◌≡◌, ◌≤◌, ◌+◌, ◌*◌, ℕ, take, ap, sym, ◌∙◌, arith}
+use Rattle.std.proofs.Common.{◌≡◌, ◌+◌, ◌*◌, ℕ, take, ap, sym, ◌∙◌, arith}
 use Rattle.std.proofs.lemmas.Result.{err_from_is_err_and}
 use Rattle.scr_pcap.proofs.Told.{IsReadInFront-from_fill}
 use Rattle.scr_wire.specs.declared.message.MessageKind.TheVariants.{Frame, End}
@@ -122,4 +122,3 @@ returns-in_ok-pass_to-in_default g c =
       few = gives-then 10 1 longest_entry _ _ _ (gives-taken 10 _ _ (take c.in_ok-count.count c.fill.new.buf) it.taken read.within) behind.few (omega arith);
       counts = counts-value g.S.Source.faults c.args.source.now c.fill.new.source c.take_end.new.source _ _ filled.cause.ok behind.counts;
     }
-

@@ -1,5 +1,4 @@
-use Rattle.std.proofs.Common.{◌≡◌, ◌≤◌, ◌<◌, ◌+◌, ◌*◌, ◌++◌, ℕ, List, length, take, drop, subst, sym, ap, ◌∙◌, arith}
-use Rattle.scr_wire.specs.declared.message.Message.{Message}
+use Rattle.std.proofs.Common.{◌≡◌, ◌+◌, ◌*◌, ℕ, drop, subst, sym, ap, ◌∙◌, arith}
 use Rattle.scr_wire.specs.Reading.{count_in}
 use Rattle.scr_wire.specs.Refusals.{refusal}
 use Rattle.scr_wire.specs.Spelling.{Spells}
