@@ -9,18 +9,18 @@ use scr_base::Row;
 use scr_wire::MessageKind;
 
 /// The length of the header of a stream, in bytes.
-const STREAM_HEADER: usize = 8;
+pub(crate) const STREAM_HEADER: usize = 8;
 
 /// The length of the header of a message, in bytes.
-const HEADER: usize = 10;
+pub(crate) const HEADER: usize = 10;
 
 /// The length of a row, in bytes.
-const ROW: usize = 56;
+pub(crate) const ROW: usize = 56;
 
 /// The mark in front of a stream, and the version behind it.
-const MARK: [u8; 4] = [0x53, 0x43, 0x52, 0x53];
+pub(crate) const MARK: [u8; 4] = [0x53, 0x43, 0x52, 0x53];
 
-const VERSION: u8 = 1;
+pub(crate) const VERSION: u8 = 1;
 
 // The header of a stream.
 pub(crate) fn stream_header(program: u8, cores: u8, history: u8) -> [u8; STREAM_HEADER]

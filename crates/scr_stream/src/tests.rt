@@ -1,6 +1,7 @@
-use crate::write_stream;
-use scr_base::{MemSink, OutOfMemory, Row};
+use crate::{StreamError, one_reading, read_stream, write_stream, written_is_read};
+use scr_base::{MemSink, MemSource, OutOfMemory, Row};
 use scr_plan::{Delays, Drops, Link, RunPlan};
+use scr_wire::WireError;
 use std::alloc::Global;
 use std::test::Fail;
 
@@ -15,7 +16,18 @@ const ROW: Row = Row {
     w6: 0,
 };
 
-// Its bytes.
+// The row of a packet that no frame carries.
+const NO_ROW: Row = Row {
+    w0: 0,
+    w1: 0,
+    w2: 0,
+    w3: 0,
+    w4: 0,
+    w5: 0,
+    w6: 0,
+};
+
+// The bytes of the first.
 const ROW_BYTES: [u8; 56] = [
     0, 0, 0, 0, 0, 0, 0, 0, 0, 0, 0, 0, 0x0A, 0, 0, 1, 0, 0, 0, 0, 0, 0, 0, 0, 0, 0, 0, 0, 0, 0, 0,
     0, 0, 0, 0, 0, 0, 0, 0, 3, 0, 0, 0, 0, 0, 0, 0, 0, 0, 0, 0, 0, 0, 0, 0, 0,
@@ -128,4 +140,203 @@ fn a_fault_leaves_a_front(rt: HostRuntime) -> Result<(), Fail> {
         assert_eq!(rt; Some(out.written()), whole.get(..100 * (call as usize - 1)));
     }
     Ok(())
+}
+
+#[test]
+fn reads_the_worked_stream(rt: HostRuntime) -> Result<(), Fail> {
+    let alloc = rt.alloc();
+    let mut source = MemSource::new(worked(alloc)?, 1, Vec::new(alloc));
+    let read = read_stream(alloc, 0, &mut source);
+    match read {
+        Ok(plan) => {
+            assert_eq!(rt; plan.rows(), vec![in alloc; ROW; 4]?.as_slice());
+            assert_eq!(rt; (plan.cores(), plan.history()), (2, 1));
+            assert!(rt; !plan.link().delivered(2, 4, 2));
+            assert!(rt; plan.link().delivered(2, 4, 1));
+            assert!(rt; plan.link().delivered(2, 4, 3));
+            assert!(rt; plan.link().delivered(2, 4, 4));
+        }
+        Err(_) => assert!(rt; false),
+    }
+    Ok(())
+}
+
+// What the reading of these bytes is refused for.
+fn refusal_of(alloc: Global, program: u8, bytes: Vec<u8>, limit: usize) -> Option<StreamError> {
+    let mut source = MemSource::new(bytes, limit, Vec::new(alloc));
+    read_stream(alloc, program, &mut source).err()
+}
+
+#[test]
+fn refuses_what_is_cut(rt: HostRuntime) -> Result<(), Fail> {
+    let alloc = rt.alloc();
+    // The first bytes alone.
+    for count in 0..328 {
+        let mut bytes = worked(alloc)?;
+        bytes.truncate(count);
+        let expected = match count {
+            0..8 => StreamError::ShortHeader,
+            8..74 => StreamError::Cut { entry: 1 },
+            74..196 => StreamError::Cut { entry: 2 },
+            196..318 => StreamError::Cut { entry: 3 },
+            _ => StreamError::Cut { entry: 4 },
+        };
+        assert_eq!(rt; refusal_of(alloc, 0, bytes, 7), Some(expected));
+    }
+    Ok(())
+}
+
+#[test]
+fn refuses_another_program_and_more_bytes(rt: HostRuntime) -> Result<(), Fail> {
+    let alloc = rt.alloc();
+    assert_eq!(rt;
+        refusal_of(alloc, 1, worked(alloc)?, 16),
+        Some(StreamError::Program)
+    );
+    let mut bytes = worked(alloc)?;
+    bytes.push(0)?;
+    assert_eq!(rt;
+        refusal_of(alloc, 0, bytes, 16),
+        Some(StreamError::Trailing)
+    );
+    Ok(())
+}
+
+// The stream with one byte of another value.
+#[test]
+fn refuses_what_is_changed(rt: HostRuntime) -> Result<(), Fail> {
+    let alloc = rt.alloc();
+    let cases = [
+        (0, 0x54, StreamError::Mark),
+        (3, 0x54, StreamError::Mark),
+        (4, 2, StreamError::Version),
+        (5, 2, StreamError::Program),
+        (6, 0, StreamError::Shape),
+        (6, 17, StreamError::Shape),
+        (7, 65, StreamError::Shape),
+        (7, 2, StreamError::Rows { entry: 2 }),
+        (7, 0, StreamError::Rows { entry: 2 }),
+        (
+            8,
+            0,
+            StreamError::Message {
+                entry: 1,
+                cause: WireError::Mark,
+            },
+        ),
+        (
+            10,
+            1,
+            StreamError::Message {
+                entry: 1,
+                cause: WireError::Version,
+            },
+        ),
+        (
+            11,
+            4,
+            StreamError::Message {
+                entry: 1,
+                cause: WireError::Kind,
+            },
+        ),
+        (
+            11,
+            2,
+            StreamError::Message {
+                entry: 1,
+                cause: WireError::Count,
+            },
+        ),
+        (
+            17,
+            0,
+            StreamError::Message {
+                entry: 1,
+                cause: WireError::Count,
+            },
+        ),
+        (
+            15,
+            0,
+            StreamError::Message {
+                entry: 1,
+                cause: WireError::Count,
+            },
+        ),
+        (15, 2, StreamError::Rows { entry: 1 }),
+        (
+            81,
+            1,
+            StreamError::Message {
+                entry: 2,
+                cause: WireError::Count,
+            },
+        ),
+        (203, 3, StreamError::Number { entry: 3 }),
+        (203, 2, StreamError::Number { entry: 3 }),
+        (201, 0x10, StreamError::Number { entry: 3 }),
+        (321, 2, StreamError::Beacon { entry: 4 }),
+        (325, 3, StreamError::Number { entry: 4 }),
+        (323, 0x10, StreamError::Number { entry: 4 }),
+        (
+            327,
+            1,
+            StreamError::Message {
+                entry: 4,
+                cause: WireError::Count,
+            },
+        ),
+        (206, 1, StreamError::Differs { entry: 3 }),
+        (261, 1, StreamError::Differs { entry: 3 }),
+    ];
+    for (place, value, expected) in cases {
+        let mut bytes = worked(alloc)?;
+        *bytes.get_mut(place).ok_or("a place")? = value;
+        assert_eq!(rt; refusal_of(alloc, 0, bytes, 16), Some(expected));
+    }
+    Ok(())
+}
+
+#[test]
+fn tells_of_a_fault(rt: HostRuntime) -> Result<(), Fail> {
+    let alloc = rt.alloc();
+    for call in 1..22 {
+        let mut source = MemSource::new(worked(alloc)?, 16, vec![in alloc; call; 1]?);
+        let read = read_stream(alloc, 0, &mut source);
+        assert_eq!(rt; read.err(), Some(StreamError::ReadFault));
+    }
+    Ok(())
+}
+
+#[test]
+fn reads_what_was_written(rt: HostRuntime) -> Result<(), Fail> {
+    let alloc = rt.alloc();
+    let drops = match Drops::read(alloc, b"1,4") {
+        Ok(drops) => drops,
+        Err(_) => return Ok(assert!(rt; false)),
+    };
+    let rows = vec![in alloc; ROW; 4]?;
+    let plan = RunPlan::make(rows, 1, 0, Link::dropping(alloc, drops));
+    let mut out = MemSink::new(alloc, 1000, Vec::new(alloc));
+    assert!(rt; write_stream(alloc, 3, &plan, &mut out).is_ok());
+    let bytes = joined(alloc, &[out.written()])?;
+    let mut source = MemSource::new(bytes, 5, Vec::new(alloc));
+    match read_stream(alloc, 3, &mut source) {
+        Ok(read) => {
+            let expected = [NO_ROW, ROW, ROW, NO_ROW];
+            assert_eq!(rt; read.rows(), expected.as_slice());
+            assert!(rt; !read.link().delivered(1, 4, 1));
+            assert!(rt; read.link().delivered(1, 4, 2));
+            assert!(rt; !read.link().delivered(1, 4, 4));
+        }
+        Err(_) => assert!(rt; false),
+    }
+    Ok(())
+}
+
+#[test]
+fn laws_are_called(_rt: HostRuntime) {
+    one_reading();
+    written_is_read();
 }
