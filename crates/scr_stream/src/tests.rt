@@ -190,15 +190,12 @@ fn refuses_what_is_cut(rt: HostRuntime) -> Result<(), Fail> {
 fn refuses_another_program_and_more_bytes(rt: HostRuntime) -> Result<(), Fail> {
     let alloc = rt.alloc();
     assert_eq!(rt;
-        refusal_of(alloc, 1, worked(alloc)?, 16),
+        refusal_of(alloc, 1, worked(alloc)?),
         Some(StreamError::Program)
     );
     let mut bytes = worked(alloc)?;
     bytes.push(0)?;
-    assert_eq!(rt;
-        refusal_of(alloc, 0, bytes, 16),
-        Some(StreamError::Trailing)
-    );
+    assert_eq!(rt; refusal_of(alloc, 0, bytes), Some(StreamError::Trailing));
     Ok(())
 }
 
