@@ -162,8 +162,8 @@ fn reads_the_worked_stream(rt: HostRuntime) -> Result<(), Fail> {
 }
 
 // What the reading of these bytes is refused for.
-fn refusal_of(alloc: Global, program: u8, bytes: Vec<u8>, limit: usize) -> Option<StreamError> {
-    let mut source = MemSource::new(bytes, limit, Vec::new(alloc));
+fn refusal_of(alloc: Global, program: u8, bytes: Vec<u8>) -> Option<StreamError> {
+    let mut source = MemSource::new(bytes, 16, Vec::new(alloc));
     read_stream(alloc, program, &mut source).err()
 }
 
@@ -181,7 +181,7 @@ fn refuses_what_is_cut(rt: HostRuntime) -> Result<(), Fail> {
             196..318 => StreamError::Cut { entry: 3 },
             _ => StreamError::Cut { entry: 4 },
         };
-        assert_eq!(rt; refusal_of(alloc, 0, bytes, 7), Some(expected));
+        assert_eq!(rt; refusal_of(alloc, 0, bytes), Some(expected));
     }
     Ok(())
 }
@@ -190,15 +190,12 @@ fn refuses_what_is_cut(rt: HostRuntime) -> Result<(), Fail> {
 fn refuses_another_program_and_more_bytes(rt: HostRuntime) -> Result<(), Fail> {
     let alloc = rt.alloc();
     assert_eq!(rt;
-        refusal_of(alloc, 1, worked(alloc)?, 16),
+        refusal_of(alloc, 1, worked(alloc)?),
         Some(StreamError::Program)
     );
     let mut bytes = worked(alloc)?;
     bytes.push(0)?;
-    assert_eq!(rt;
-        refusal_of(alloc, 0, bytes, 16),
-        Some(StreamError::Trailing)
-    );
+    assert_eq!(rt; refusal_of(alloc, 0, bytes), Some(StreamError::Trailing));
     Ok(())
 }
 
@@ -293,7 +290,7 @@ fn refuses_what_is_changed(rt: HostRuntime) -> Result<(), Fail> {
     for (place, value, expected) in cases {
         let mut bytes = worked(alloc)?;
         *bytes.get_mut(place).ok_or("a place")? = value;
-        assert_eq!(rt; refusal_of(alloc, 0, bytes, 16), Some(expected));
+        assert_eq!(rt; refusal_of(alloc, 0, bytes), Some(expected));
     }
     Ok(())
 }
