@@ -22,7 +22,8 @@ use Rattle.scr_replica.specs.OneCore.{given_to, course_up_to, course, kept_rows,
 use Rattle.scr_replica.specs.Replicas.{Replica, Stands, IsReplica, IsThrough}
 use Rattle.scr_replica.specs.Turns.{given_in, HasMoreLooks, GoesOn, GivesVerdict}
 use Rattle.scr_replica.specs.Ways.{HasWatched, CameFrom, IsOnItsWay}
-use Rattle.scr_replica.specs.Answers.{core_tally}
+use Rattle.scr_replica.specs.declared.gathered.CoreTally.{CoreTally}
+use Rattle.scr_replica.specs.Answers.{core_tally, core_answer}
 use Rattle.scr_replica.proofs.Taking.{course-zero}
 
 -- the course up to a packet is a front of the whole
@@ -56,11 +57,12 @@ more-then a b c one other =
     (one.0 ++ other.0, other.1 ∙ ap (λ (l : List Noted). l ++ other.0) one.1 ∙ append_assoc a.looks one.0 other.0)
 
 ends-then : (a b c : OfCore) (look : Noted) → HasMoreLooks a b → EndsWith b c look → EndsWith a c look
-ends-then a b c look one other =
-    (one.0 ++ other.0,
-      other.1
+ends-then a b c look one other = (
+  one.0 ++ other.0,
+  other.1
       ∙ ap (λ (l : List Noted). (l ++ other.0) ++ look ∷ []) one.1
-      ∙ ap (λ (l : List Noted). l ++ look ∷ []) (append_assoc a.looks one.0 other.0))
+      ∙ ap (λ (l : List Noted). l ++ look ∷ []) (append_assoc a.looks one.0 other.0),
+)
 
 -- a replica that has watched the halt word a while
 module _ {State : Type 0} where
@@ -245,6 +247,14 @@ module _ {State : Type 0} (StandsFor : State → List Row → Type 0) (verdict_a
         ∙ ap (λ (p : Plan). count_after (kept_rows p it.pass.finished)) own-plan
         ∙ ap (λ (n : ℕ). count_after (kept_rows plan n)) all in
         λ i. record { core = numbers i; counts = counted i; flows = kept i }
+
+-- what a core should answer, once its list has all that it was to get
+pub core-answer : (verdict_after : List Row → Row → Verdict) (count_after : List Row → ℕ) (plan : Plan) (core : ℕ) (tally : CoreTally)
+    → tally ≡ core_tally count_after plan core → (verdicts : List Given) → course verdict_after plan core ≡ verdicts ++ []
+    → record { core = tally.core; verdicts = verdicts; counts = tally.counts; flows = tally.flows } ≡ core_answer verdict_after count_after plan core
+core-answer verdict_after count_after plan core tally is verdicts all =
+    let given : verdicts ≡ course verdict_after plan core = sym (all ∙ append-nil verdicts) in
+    λ i. record { core = (is i).core; verdicts = given i; counts = (is i).counts; flows = (is i).flows }
 
 -- one that is through has published all
 pub published-all : {State : Type 0} (it : Replica State) → IsReplica it → IsThrough it → it.pass.published ≡ frame_count it.pass.logs.plan

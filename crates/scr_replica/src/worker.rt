@@ -85,7 +85,18 @@ fn give_out<P: Program, O: Outlet, R: Wait>(
     unreachable!()
 }
 
-// A turn, whose verdict is given out.
+// Gives a packet back that the core needs no more, where there is one.
+#[inline]
+fn give_back<P: Program, O: Outlet>(replica: &mut Replica<P>, outlet: &mut O)
+    ensures same { replica.new ≡ replica.old }
+    ensures awaits { (whole rest : List Given) → O.Awaits outlet.old whole rest → O.Awaits outlet.new whole rest }
+{
+    if let Some(packet) = replica.spent() {
+        outlet.take_back(packet);
+    }
+}
+
+// A turn, whose verdict is given out. Behind one that took a message the packet before goes back.
 #[inline]
 fn take_turn<P: Program, O: Outlet, R: Wait>(
     rt: &R,
@@ -101,7 +112,10 @@ fn take_turn<P: Program, O: Outlet, R: Wait>(
     ensures { (start : OfCore) → IsOnItsWay (P.StandsFor settings.now) (P.verdict_after settings.now) (O.Awaits outlet.old) start replica.old → Leads (P.StandsFor settings.now) (P.verdict_after settings.now) (O.Awaits outlet.new) start replica.new result }
 {
     match replica.turn(rt, settings, logs) {
-        Turn::Moved => Advance::On,
+        Turn::Moved => {
+            give_back(replica, outlet);
+            Advance::On
+        }
         Turn::Verdict { number, verdict } => {
             match give_out(rt, replica, logs, outlet, Given { number, verdict }) {
                 Ok(()) => Advance::On,
@@ -215,7 +229,14 @@ pub fn run_core<P: Program, G: Gate, R: Wait>(
 {
     let mut verdicts = Vec::new(alloc);
     let tally = run_core_into::<P, G, Vec<Given>, R>(
-        rt, alloc, settings, lane, pass, logs, gate, &mut verdicts,
+        rt,
+        alloc,
+        settings,
+        lane,
+        pass,
+        logs,
+        gate,
+        &mut verdicts,
     )?;
     Ok(CoreResult {
         core: tally.core,
