@@ -56,7 +56,7 @@ more-then : (a b c : OfCore) → HasMoreLooks a b → HasMoreLooks b c → HasMo
 more-then a b c one other =
     (one.0 ++ other.0, other.1 ∙ ap (λ (l : List Noted). l ++ other.0) one.1 ∙ append_assoc a.looks one.0 other.0)
 
-ends-then : (a b c : OfCore) (look : Noted) → HasMoreLooks a b → EndsWith b c look → EndsWith a c look
+pub ends-then : (a b c : OfCore) (look : Noted) → HasMoreLooks a b → EndsWith b c look → EndsWith a c look
 ends-then a b c look one other = (
   one.0 ++ other.0,
   other.1
@@ -147,6 +147,19 @@ module _ {State : Type 0} (StandsFor : State → List Row → Type 0) (verdict_a
         awaits = awaits;
       }
 
+  -- another outlet awaits the same, or the same outlet later
+  pub awaits-on : (Awaits Awaits_then : (whole rest : List Given) → Type 0) → ((whole rest : List Given) → Awaits whole rest → Awaits_then whole rest)
+      → (start : OfCore) (old new : Replica State) → new ≡ old → IsOnItsWay StandsFor verdict_after Awaits start old
+      → IsOnItsWay StandsFor verdict_after Awaits_then start new
+  awaits-on Awaits Awaits_then goes start old new same way =
+      let P : Replica State → Type 0 = λ it. IsOnItsWay StandsFor verdict_after Awaits_then start it in
+      subst P (sym same) (record {
+        came = way.came;
+        rest = way.rest;
+        parts = way.parts;
+        awaits = goes (course verdict_after start.logs.plan start.core) way.rest way.awaits;
+      })
+
   -- a turn that a replica on its way has made
   module _ (Awaits : (whole rest : List Given) → Type 0) (start : OfCore) (old new : Replica State) (answer : Turn)
       (way : IsOnItsWay StandsFor verdict_after Awaits start old) (on : GoesOn old new) (is : IsReplica new) (stands : Stands StandsFor new)
@@ -192,18 +205,22 @@ module _ {State : Type 0} (StandsFor : State → List Row → Type 0) (verdict_a
 
     -- one with a verdict: the outlet awaits it, and once it has it, the rest
     module _ (given : Given) (some : given_in answer ≡ Some given) where
-      pub is-awaited : Awaits whole (given ∷ later)
+      is-awaited : Awaits whole (given ∷ later)
       is-awaited = subst (Awaits whole) (given-first ∙ ap (λ (o : Option Given). option_to_list o ++ later) some) way.awaits
 
-      pub goes-with : (Awaits_then : (whole rest : List Given) → Type 0) (last : Replica State) → HasWatched new last → Awaits_then whole later
-          → IsOnItsWay StandsFor verdict_after Awaits_then start last
-      goes-with Awaits_then last watched awaits = record {
+      pub some-awaited : (whole : List Given) × (rest : List Given) × Awaits whole (given ∷ rest)
+      some-awaited = (whole, later, is-awaited)
+
+      pub goes-with : (Awaits_then : (whole rest : List Given) → Type 0)
+          → ((whole rest : List Given) → Awaits whole (given ∷ rest) → Awaits_then whole rest)
+          → (last : Replica State) → HasWatched new last → IsOnItsWay StandsFor verdict_after Awaits_then start last
+      goes-with Awaits_then gives last watched = record {
         came = came-watched StandsFor start new last came-further watched;
         rest = later;
         parts =
             course-parts verdict_after start.logs.plan start.core new.pass.finished within
             ∙ ap (λ (it : Replica State). up_to it.pass.finished ++ later) (sym watched.same);
-        awaits = awaits;
+        awaits = gives whole later is-awaited;
       }
 
   -- at its end it has published and finished all, and given out what it should
