@@ -27,7 +27,7 @@ use Rattle.scr_replica.specs.Answers.{core_tally, core_answer}
 use Rattle.scr_replica.proofs.Taking.{course-zero}
 
 -- the course up to a packet is a front of the whole
-behind : (verdict_after : List Row → Row → Verdict) (plan : Plan) (core n : ℕ) → List Given
+abbrev behind : (verdict_after : List Row → Row → Verdict) (plan : Plan) (core n : ℕ) → List Given
 behind verdict_after plan core n = filter_map (given_to verdict_after plan core) (range_with_len (1 + n) (frame_count plan - n))
 
 course-parts : (verdict_after : List Row → Row → Verdict) (plan : Plan) (core n : ℕ) → n ≤ frame_count plan
@@ -164,13 +164,13 @@ module _ {State : Type 0} (StandsFor : State → List Row → Type 0) (verdict_a
   module _ (Awaits : (whole rest : List Given) → Type 0) (start : OfCore) (old new : Replica State) (answer : Turn)
       (way : IsOnItsWay StandsFor verdict_after Awaits start old) (on : GoesOn old new) (is : IsReplica new) (stands : Stands StandsFor new)
       (verdict : GivesVerdict verdict_after old new answer) where
-    whole : List Given
+    abbrev whole : List Given
     whole = course verdict_after start.logs.plan start.core
 
-    up_to : ℕ → List Given
+    abbrev up_to : ℕ → List Given
     up_to n = course_up_to verdict_after start.logs.plan start.core n
 
-    later : List Given
+    abbrev later : List Given
     later = behind verdict_after start.logs.plan start.core new.pass.finished
 
     pub came-further : CameFrom StandsFor start new

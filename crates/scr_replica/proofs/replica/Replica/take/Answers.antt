@@ -18,8 +18,8 @@ invariant_of-self g c =
     keeps-ended it me.heard me.row me.finished me.cores me.history was
     (through-all it me.heard me.row me.finished me.cores me.history was (sym c.is_whole.ensures ∙ c.if-is_whole.true) all)
 
-pub take-self-requires : goal.take-self-requires
-take-self-requires g c = let fits = c.pop-packet.ensures.item in (fits.message, fits.spells)
+pub take-requires : goal.take-requires
+take-requires g c = let fits = c.pop-packet.ensures.item in (fits.message, fits.spells)
 
 pub invariant_of-self-2 : goal.invariant_of-self-2
 invariant_of-self-2 g c =
@@ -33,7 +33,7 @@ invariant_of-self-2 g c =
     let lane_is = c.pop-packet.ensures.count ∙ ap (λ (e : End Route). moved e) looks in
     let fits = subst (λ (e : End Route). SpellsMessage e.about e.count c.pop-packet.result) looks c.pop-packet.ensures.item in
     let shown = subst (λ (r : Route). SpellsMessage r me.lane.count c.pop-packet.result) was.replica.its_lane fits in
-    subst (λ (e : End Route). Keeps (replica_of e me.pass me.state me.counts me.asked me.standing) c.take-self.new.self me.row me.finished me.cores me.history) (sym lane_is)
-    (keeps-taken it me.heard me.row me.finished me.cores me.history was (going it running) seen.looks c.take-self.new.self all
+    subst (λ (e : End Route). Keeps (replica_of e me.pass me.state me.counts me.asked me.standing) c.take.new.self me.row me.finished me.cores me.history) (sym lane_is)
+    (keeps-taken it me.heard me.row me.finished me.cores me.history was (going it running) seen.looks c.take.new.self all
     (was.heard.not_whole (sym c.is_whole.ensures ∙ c.if-is_whole.false))
-    (c.take-self.ensures me.pass.logs.plan me.pass.core me.lane.count was.replica.is_logs.plan (sym was.history) shown was.heard))
+    (c.take.ensures me.pass.logs.plan me.pass.core me.lane.count was.replica.is_logs.plan (sym was.history) shown was.heard))
