@@ -2,7 +2,7 @@
 ghost use Rattle.std.specs.Prelude.{◌≡◌, IfOk};
 ghost use Rattle.scr_replica.specs.Replicas.{Begin, Stands};
 
-use super::cores::{feed_all, four, settings_of, two_cores};
+use super::cores::{Two, feed_all, four, settings_of, two_cores};
 use crate::{Pending, Replica, Turn};
 use scr_base::Verdict;
 use scr_ddos::{Ddos, DdosSettings};
@@ -167,18 +167,26 @@ fn two_cores_with_one_slot(rt: HostRuntime) -> Result<(), Fail> {
 fn a_core_that_waits_is_halted(rt: HostRuntime) -> Result<(), Fail> {
     let plan = four(rt.alloc())?;
     let settings = settings_of(&rt);
-    let mut two = two_cores(rt.alloc(), &plan, 4)?;
-    let mut zero = replica_of(rt.alloc(), &settings, two.to_zero, two.zero, &two.logs)?;
-    let mut one = replica_of(rt.alloc(), &settings, two.to_one, two.one, &two.logs)?;
-    assert!(rt; feed_all(&rt, &mut two.feed)?);
+    let Two {
+        logs,
+        mut main,
+        mut feed,
+        zero,
+        one,
+        to_zero,
+        to_one,
+    } = two_cores(rt.alloc(), &plan, 4)?;
+    let mut zero = replica_of(rt.alloc(), &settings, to_zero, zero, &logs)?;
+    let mut one = replica_of(rt.alloc(), &settings, to_one, one, &logs)?;
+    assert!(rt; feed_all(&rt, &mut feed)?);
     let not_yet = Turn::Waiting(Pending::NotYet { core: 1, tag: 0 });
     let turns = [MOVED, MOVED, FIRST, MOVED, MOVED, not_yet, not_yet].map(|turn| (0, turn));
-    let right = right_turns(&rt, &settings, &mut zero, &mut one, &two.logs, &turns);
+    let right = right_turns(&rt, &settings, &mut zero, &mut one, &logs, &turns);
     assert_eq!(rt; right, turns.len());
-    assert!(rt; !zero.halted(&two.logs));
-    two.logs.halt_by_main(&mut two.main);
+    assert!(rt; !zero.halted(&logs));
+    logs.halt_by_main(&mut main);
     let halted = [(0, Turn::Halted), (0, Turn::Halted)];
-    let right = right_turns(&rt, &settings, &mut zero, &mut one, &two.logs, &halted);
+    let right = right_turns(&rt, &settings, &mut zero, &mut one, &logs, &halted);
     assert_eq!(rt; right, 2);
     Ok(())
 }
