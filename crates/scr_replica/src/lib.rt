@@ -34,8 +34,8 @@
 //! the one-core verdicts of its core's frames, in order and each once, and answers the counts and the entries; [`run_core`]
 //! answers all of these. Where a core stops it hands its pass back with the look or the halt that says why.
 //!
-//! **What is only tested.** That two replicas by turns, and two cores in threads, come to their end. Which packet comes back.
-//! That there is an answer where there is memory, and the verdicts, counts and entries of runs that were worked out by hand.
+//! **What is only tested.** That there is an answer where there is memory, and the verdicts, counts and entries of runs that
+//! were worked out by hand.
 //!
 //! **Limits.** Those of a plan: at most 1,000,000 packets, 16 cores and a history of 64. In a run by phases each core holds
 //! 64 bytes for each packet; a replica holds two packets and its state. A run's time grows with frames times cores; the

@@ -10,10 +10,6 @@ use std::alloc::Global;
 use std::process::Abort;
 use std::test::Fail;
 
-mod cores;
-mod threads;
-mod turns;
-
 // A datagram from 10.0.0.1 for a counter of packets, whose first verdicts are PASS (0) and whose later ones DROP (1).
 const A: Row = Row {
     w1: 0x0A00_0001,
