@@ -9,6 +9,7 @@ use scr_lane::{Course, Receiver, Sender, make_ends};
 use scr_plan::{Given, RunPlan};
 use scr_program::Program;
 use scr_replica::Outlet;
+use scr_wire::Packet;
 use std::alloc::Global;
 use std::marker::{Model, PhantomData};
 use std::snapshot::Snapshot;
@@ -168,5 +169,9 @@ impl<P: Program> Outlet for VerdictSend<P> {
 
     fn give<R: Wait>(&mut self, rt: &R, given: Given) -> Result<bool, OutOfMemory> {
         Ok(self.push(rt, given).is_ok())
+    }
+
+    fn take_back(&mut self, spent: Packet) {
+        drop(spent);
     }
 }
