@@ -37,10 +37,10 @@ module _ {P Settings State : Type 0} (count_after : List Row → ℕ) (plan : Pl
       let its : IsAnswer count_after plan n (Ok totals) = first_comes (IsAnswer count_after plan) n plan.cores (Ok totals) rest is.coming in
       record {
         so_far = ap (λ (xs : List CoreCounts). xs ++ totals.counts ∷ []) is.so_far
-            ∙ ap (λ (it : CoreCounts). map (plan_counts plan) (range_with_len 0 n) ++ it ∷ []) its.counts
+            ∙ ap (λ (it : CoreCounts). map (plan_counts plan) (range_with_len 0 n) ++ it ∷ []) its.its_counts
             ∙ sym (map-range_with_len_more (plan_counts plan) 0 n n (omega arith))
             ∙ ap (λ (k : ℕ). map (plan_counts plan) (range_with_len 0 k)) (sym longer);
-        last = λ some. its.flows;
+        last = λ some. its.its_flows;
         coming = subst (λ (k : ℕ). Coming (IsAnswer count_after plan) k plan.cores rest) (sym longer)
             (others_come (IsAnswer count_after plan) n plan.cores (Ok totals) rest is.coming);
       }

@@ -9,7 +9,7 @@ use Rattle.scr_crew.proofs.Answered.{Answered}
 use Rattle.scr_crew.proofs.joining.tallies_of.Given as goal
 
 abbrev pub invariant-loop-answer : goal.invariant-loop-answer
-invariant-loop-answer l =
+invariant-loop-answer g l =
     l.halted ≡ false → (count_after : List Row → ℕ) (plan : Plan)
     → OfCores (IsAnswer count_after plan) plan.cores l.fn.answers.items
     → Answered count_after plan l.cores.items l.flows (into_iter_items l.answer-iterator)

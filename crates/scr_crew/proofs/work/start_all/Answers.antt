@@ -20,9 +20,9 @@ loop-worker-preserved g c =
     let started = c.loop-worker.started.items in
     let n : ℕ = length started in
     let all : ℕ = length c.args.workers.items in
-    let worker : Worker = c.in-Some.worker in
+    let worker : Worker g.row.P.Denot g.row.P-Settings.Denot g.row.P-State.Denot = c.in-Some.worker in
     let thread = c.in-Some-thread.thread in
-    let rest : List Worker = into_iter_items c.next.new.self in
+    let rest : List (Worker g.row.P.Denot g.row.P-Settings.Denot g.row.P-State.Denot) = into_iter_items c.next.new.self in
     let coming : Coming (IsWorker verdict_after logs) n all (worker ∷ rest) =
     subst (Coming (IsWorker verdict_after logs) n all) c.in-Some.ensures.steps.0 c.loop-worker.invariant.1 in
     let its : IsWorker verdict_after logs n worker = first_comes (IsWorker verdict_after logs) n all worker rest coming in
