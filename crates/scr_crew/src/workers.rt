@@ -36,8 +36,8 @@ pub struct Crew<P: Program> {
     pub spent: Vec<Consumer<Packet>>,
 }
 
-// Claims this core for a part of the pass. None where another core was drawn, or none.
-fn claim(logs: &Logs, free: &mut FreePass, core: u32) -> Option<CorePass>
+/// Claims this core for a part of the pass. None where another core was drawn, or none.
+pub fn claim(logs: &Logs, free: &mut FreePass, core: u32) -> Option<CorePass>
     requires of_these { free.old.logs ≡ logs.now }
     requires stock { 2 ≤ free.old.stock }
     ensures logs { IfSome result (λ pass. pass.logs ≡ logs.now) }

@@ -4,13 +4,13 @@ ghost use Rattle.scr_replica.specs.OneCore.{course};
 
 use super::{Case, FOUR, plan_of, settings};
 use crate::returning::{Returning, take_home};
-use crate::workers::claim_all;
+use crate::workers::claim;
 use crate::{OpenGate, VerdictLane};
-use scr_ddos::{Ddos, DdosSettings};
+use scr_ddos::Ddos;
 use scr_feed::{Feed, Step};
 use scr_log::Logs;
 use scr_plan::{Given, RunPlan};
-use scr_program::PASS;
+use scr_program::{PASS, Program};
 use scr_replica::{Outlet, run_core};
 use scr_wire::{Message, encode};
 use std::alloc::Global;
@@ -36,24 +36,21 @@ fn feed_all<R: Wait>(rt: &R, feed: &mut Feed<'_>) -> Result<(), Fail> {
 }
 
 // The verdicts of the one core of a short run, as a core that keeps them makes them.
-fn verdicts_of<R: Wait>(
+fn verdicts_of<P: Program, R: Wait>(
     rt: &R,
     alloc: Global,
-    settings: &DdosSettings,
+    settings: &P::Settings,
     plan: &RunPlan,
 ) -> Result<Vec<Given>, Fail>
-    ensures { IfOk result (λ it. it.items ≡ course (Ddos.verdict_after settings.now) plan.now 0) }
+    ensures { IfOk result (λ it. it.items ≡ course (P.verdict_after settings.now) plan.now 0) }
 {
     let (logs, mut free) = Logs::make(alloc, plan, 1_024)?;
-    let (mut feed, ends) = Feed::make(alloc, plan, 1_024)?;
+    let (mut feed, mut ends) = Feed::make(alloc, plan, 1_024)?;
     feed_all(rt, &mut feed)?;
-    let crew = claim_all::<Ddos>(alloc, settings, plan, &logs, &mut free, ends)?;
-    let mut workers = crew.ok_or("a crew")?.workers.into_iter();
-    let worker = workers.next().ok_or("a core")?;
-    let kept = run_core::<Ddos, OpenGate, R>(
-        rt, alloc, settings, worker.lane, worker.pass, &logs, &OpenGate,
-    );
-    match kept {
+    ends.truncate(1);
+    let lane = ends.pop().ok_or("a lane")?;
+    let pass = claim(&logs, &mut free, 0).ok_or("a pass")?;
+    match run_core::<P, OpenGate, R>(rt, alloc, settings, lane, pass, &logs, &OpenGate) {
         Ok(kept) => Ok(kept.verdicts),
         Err(_) => Err("a core that is not halted".into()),
     }
@@ -63,7 +60,7 @@ fn verdicts_of<R: Wait>(
 fn a_full_verdict_lane_gives_the_verdict_back(rt: HostRuntime) -> Result<(), Fail> {
     let plan = plan_of(rt.alloc(), &ALONE)?;
     let settings = settings();
-    let verdicts = verdicts_of(&rt, rt.alloc(), &settings, &plan)?;
+    let verdicts = verdicts_of::<Ddos, _>(&rt, rt.alloc(), &settings, &plan)?;
     let first = *verdicts.get(0).ok_or("a verdict")?;
     let second = *verdicts.get(1).ok_or("a second")?;
     let (mut send, mut receive) =
