@@ -120,8 +120,9 @@ impl VerdictLane {
         ensures receive { IfOk result (λ ends. ends.1 ≡ begun ends.1.lane (course (P.verdict_after settings.now) plan.now core) capacity) }
     {
         let about = CourseOf::<P>::of(settings, plan, core);
-        let (send, receive) =
-            make_ends::<Given, CourseOf<P>, Verdicts<P>>(alloc, &about, capacity)?;
+        let (send, receive) = make_ends::<Given, CourseOf<P>, Verdicts<P>>(
+            alloc, &about, capacity,
+        )?;
         Ok((VerdictSend { end: send }, VerdictReceive { end: receive }))
     }
 }

@@ -24,6 +24,13 @@ const ALONE: Case = Case {
     ..FOUR
 };
 
+fn pass_at(number: u32) -> Given {
+    Given {
+        number,
+        verdict: PASS,
+    }
+}
+
 // Feeds the lanes until a lane is full or all is fed.
 fn feed_all<R: Wait>(rt: &R, feed: &mut Feed<'_>) -> Result<(), Fail> {
     for _ in 0..10_000 {
@@ -63,10 +70,9 @@ fn a_full_verdict_lane_gives_the_verdict_back(rt: HostRuntime) -> Result<(), Fai
     let verdicts = verdicts_of::<Ddos, _>(&rt, rt.alloc(), &settings, &plan)?;
     let first = *verdicts.get(0).ok_or("a verdict")?;
     let second = *verdicts.get(1).ok_or("a second")?;
-    let (mut send, mut receive) =
-        VerdictLane::make::<Ddos>(rt.alloc(), &settings, &plan, 0, 1)?;
-    assert_eq!(rt; first, Given { number: 1, verdict: PASS });
-    assert_eq!(rt; second, Given { number: 2, verdict: PASS });
+    let (mut send, mut receive) = VerdictLane::make::<Ddos>(rt.alloc(), &settings, &plan, 0, 1)?;
+    assert_eq!(rt; first, pass_at(1));
+    assert_eq!(rt; second, pass_at(2));
     assert_eq!(rt; send.push(&rt, first), Ok(()));
     assert_eq!(rt; send.push(&rt, second), Err(second));
     assert_eq!(rt; receive.pop(&rt), Some(first));

@@ -1,5 +1,5 @@
 -- Where no core was halted, the answers so far are what the first cores should answer.
-use Rattle.std.proofs.Common.{◌≡◌, ◌≤◌, ℕ, List, false}
+use Rattle.std.proofs.Common.{◌≡◌, ℕ, List, false}
 use Rattle.std.specs.Vec.Iter.{into_iter_items}
 use Rattle.scr_base.specs.declared.row.Row.{Row}
 use Rattle.scr_plan.specs.Plan.{Plan}
