@@ -23,13 +23,18 @@
 //! memory of such a run beside what the threads took.
 #![tactic(auto)]
 
+mod arrivals;
 mod core_out;
+mod crew;
 mod feeding;
 mod joining;
 mod lines;
 mod open_gate;
+mod returning;
 mod run_stop;
 mod streamed;
+mod taker;
+mod taking;
 #[cfg(test)]
 mod tests;
 mod threads;
@@ -40,6 +45,6 @@ mod workers;
 pub use core_out::{CoreTotals, run_core_out};
 pub use open_gate::OpenGate;
 pub use run_stop::RunStop;
-pub use streamed::run_streamed;
+pub use streamed::{Streamed, run_streamed};
 pub use threads::run_threads;
 pub use verdict_lane::{CourseOf, VerdictLane, VerdictReceive, VerdictSend};

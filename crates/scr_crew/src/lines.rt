@@ -1,18 +1,23 @@
 //! The lines of verdicts, by the names that a program has for them.
-ghost use Rattle.std.specs.Prelude.{◌<◌, All, length};
+ghost use Rattle.std.specs.Prelude.{◌≡◌, ◌<◌, ◌^◌, ◌++◌, ◌∷◌, [], List, length};
 ghost use Rattle.scr_base.specs.Causes.{CountsError};
 ghost use Rattle.scr_base.specs.Streams.{BatchesText};
+ghost use Rattle.scr_plan.specs.declared.given.Given.{Given};
+ghost use Rattle.scr_report.specs.Outcome.{totals_of};
 ghost use Rattle.scr_report.specs.Text.{verdict_line};
-ghost use Rattle.scr_crew.specs.Streamed.{lines_of};
 
-use scr_base::{Batch, Sink, SinkError};
+use crate::run_stop::RunStop;
+use crate::taker::Taker;
+use scr_base::{Batch, OutOfMemory, Sink, SinkError, Verdict};
 use scr_plan::Given;
 use scr_program::Program;
 use scr_report::put_line;
+use std::alloc::Global;
+use std::marker::PhantomData;
 
-/// Puts the line of a verdict through a batch.
+// Puts the line of a verdict through a batch.
 #[inline]
-pub fn put_given<P: Program, O: Sink>(
+fn put_given<P: Program, O: Sink>(
     given: Given,
     batch: &mut Batch,
     out: &mut O,
@@ -27,18 +32,69 @@ pub fn put_given<P: Program, O: Sink>(
     }
 }
 
-/// Puts the lines of these verdicts through a batch.
-pub fn put_all_given<P: Program, O: Sink>(
-    verdicts: &[Given],
-    batch: &mut Batch,
-    out: &mut O,
-) -> Result<(), SinkError>
-    requires { All (λ given. given.verdict.0 < length P.verdict_names) verdicts.now }
-    ensures text { BatchesText (O.written out.old) (O.written out.new) batch.old batch.new result (lines_of P.verdict_names verdicts.now) }
-    ensures cause { CountsError O.faults O.wants out.old out.new result }
+// Counts a verdict for its name.
+#[inline]
+fn count(totals: &mut [u64], verdict: Verdict)
+    requires { (names : List (List _)) × (so_far : List Given) × (length so_far < 2 ^ 63) × (totals.old ≡ totals_of names so_far) }
+    ensures { (names : List (List _)) (so_far : List Given) (number : _) → totals.old ≡ totals_of names so_far
+        → totals.new ≡ totals_of names (so_far ++ record { number = number; verdict = verdict } ∷ []) }
 {
-    for given in verdicts {
-        put_given::<P, O>(*given, batch, out)?;
+    let place = usize::from(verdict.0);
+    if place < totals.len() {
+        totals[place] += 1;
     }
-    Ok(())
+}
+
+/// Writes the lines of verdicts, and counts how often each name was given.
+#[derive(Drop)]
+pub struct Lines<P> {
+    batch: Batch,
+    taken: u32,
+    totals: Vec<u64>,
+    program: PhantomData<P>,
+}
+
+impl<P: Program> Lines<P> {
+    /// No verdict is taken.
+    pub fn new(alloc: Global) -> Result<Self, OutOfMemory> {
+        Ok(Lines {
+            batch: Batch::new(),
+            taken: 0,
+            totals: vec![in alloc; 0u64; usize::from(P::names())]?,
+            program: PhantomData,
+        })
+    }
+
+    /// How many verdicts were taken, and how often each name was given, in the order of the names.
+    pub fn into_counts(self) -> (u32, Vec<u64>) {
+        (self.taken, self.totals)
+    }
+}
+
+/// A line for each verdict goes to a sink, by a batch.
+impl<P: Program, O: Sink> Taker<O> for Lines<P> {
+    ghost use Rattle.scr_crew.specs.Lines.{AreToWrite, IsStoppedWriting};
+
+    ghost IsToTake = { AreToWrite O.written O.faults O.wants P.verdict_names };
+
+    ghost IsOut = { λ lines. lines.batch ≡ [] };
+
+    ghost Stopped = { IsStoppedWriting O.written O.faults O.wants P.verdict_names };
+
+    ghost may_lack = { lacks };
+
+    fn take(&mut self, out: &mut O, given: Given) -> Result<(), RunStop> {
+        put_given::<P, O>(given, &mut self.batch, out)?;
+        count(&mut self.totals, given.verdict);
+        self.taken += 1;
+        Ok(())
+    }
+
+    fn flush(&mut self, out: &mut O) -> Result<(), RunStop> {
+        Ok(self.batch.finish(out)?)
+    }
+
+    fn taken(&self) -> usize {
+        self.taken as usize
+    }
 }

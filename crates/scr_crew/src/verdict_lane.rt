@@ -9,6 +9,7 @@ use scr_lane::{Course, Receiver, Sender, make_ends};
 use scr_plan::{Given, RunPlan};
 use scr_program::Program;
 use scr_replica::Outlet;
+use scr_wire::Packet;
 use std::alloc::Global;
 use std::marker::{Model, PhantomData};
 use std::snapshot::Snapshot;
@@ -119,8 +120,9 @@ impl VerdictLane {
         ensures receive { IfOk result (λ ends. ends.1 ≡ begun ends.1.lane (course (P.verdict_after settings.now) plan.now core) capacity) }
     {
         let about = CourseOf::<P>::of(settings, plan, core);
-        let (send, receive) =
-            make_ends::<Given, CourseOf<P>, Verdicts<P>>(alloc, &about, capacity)?;
+        let (send, receive) = make_ends::<Given, CourseOf<P>, Verdicts<P>>(
+            alloc, &about, capacity,
+        )?;
         Ok((VerdictSend { end: send }, VerdictReceive { end: receive }))
     }
 }
@@ -168,5 +170,9 @@ impl<P: Program> Outlet for VerdictSend<P> {
 
     fn give<R: Wait>(&mut self, rt: &R, given: Given) -> Result<bool, OutOfMemory> {
         Ok(self.push(rt, given).is_ok())
+    }
+
+    fn take_back(&mut self, spent: Packet) {
+        drop(spent);
     }
 }
