@@ -5,5 +5,6 @@ pub mod Verdicts
 pub mod Streamed
 pub mod Takings
 pub mod Takers
+pub mod Trying
 pub mod Lines
 pub mod Threads

@@ -1,10 +1,15 @@
 -- The lines that leave by a batch while verdicts are taken.
-use Rattle.std.specs.Prelude.{◌≡◌, ◌⊎◌, ℕ, ◌<◌, ◌^◌, List, [], ◌++◌, All, Option, length}
+use Rattle.std.specs.Prelude.{◌≡◌, ◌⊎◌, ℕ, ◌<◌, ◌^◌, List, [], ◌++◌, All, Option, length, map}
+use Rattle.std.specs.List.{concat}
+use Rattle.std.proofs.Common.{ap, ◌∙◌, inl, append_assoc}
+use Rattle.std.proofs.lemmas.List.{map-append}
+use Rattle.std.proofs.lemmas.List.Folds.{concat-append}
 use Rattle.scr_base.specs.Causes.{counted}
 use Rattle.scr_base.specs.Streams.{AppendsPrefix, Passes}
 use Rattle.scr_base.specs.declared.out_of_memory.OutOfMemory as memory
 use Rattle.scr_plan.specs.declared.given.Given.{Given}
 use Rattle.scr_report.specs.Outcome.{totals_of}
+use Rattle.scr_report.specs.Text.{verdict_line}
 use Rattle.scr_crew.specs.declared.run_stop.RunStop.{RunStop}
 use Rattle.scr_crew.specs.declared.run_stop.RunStop.TheVariants.{WriteFault, OutOfMemory}
 use Rattle.scr_crew.specs.declared.lines.Lines.{Lines}
@@ -28,3 +33,25 @@ module _ {O : Type 0} (written : O → Option (List ℕ)) (faults wants : O → 
     pub write_fault : stop ≡ WriteFault → (faults now ≡ counted (faults before)) × (wants now ≡ wants before)
     pub out_of_memory : (want : memory.OutOfMemory) → stop ≡ OutOfMemory want
         → (faults now ≡ faults before) × ((wants now ≡ wants before) ⊎ (wants now ≡ counted (wants before)))
+
+  -- the lines of two lists are those of one, and then those of the other
+  pub lines-append : (xs ys : List Given) → lines_of names (xs ++ ys) ≡ lines_of names xs ++ lines_of names ys
+  lines-append xs ys = ap concat (map-append (verdict_line names) xs ys) ∙ concat-append (map (verdict_line names) xs) (map (verdict_line names) ys)
+
+  -- where there is no memory, a front of the lines is written
+  pub lacks : (lines : Lines) (before now : O) (whole rest : List Given) (want : memory.OutOfMemory) → AreToWrite lines before now whole rest
+      → IsStoppedWriting (OutOfMemory want) before now whole
+  lacks lines before now whole rest want is = record {
+    text = record {
+      sent = is.passed.sent;
+      rest = lines.batch ++ lines_of names rest;
+      gained = is.passed.gained;
+      parts =
+          ap (lines_of names) is.parts
+          ∙ lines-append is.front rest
+          ∙ ap (λ (text : List ℕ). text ++ lines_of names rest) is.passed.parts
+          ∙ append_assoc is.passed.sent lines.batch (lines_of names rest);
+    };
+    write_fault = λ e. absurd cc;
+    out_of_memory = λ other e. (is.calm.0, inl is.calm.1);
+  }

@@ -1,5 +1,5 @@
 -- What leaves while a run goes on: a line for each delivered frame, in the order of the frames.
-use Rattle.std.specs.Prelude.{◌≡◌, ◌⊎◌, ℕ, List, map, Option, Result, Err, OnOk, MatchResult}
+use Rattle.std.specs.Prelude.{◌≡◌, ◌≢◌, ◌⊎◌, ℕ, List, map, Option, Result, Err, OnOk, MatchResult}
 use Rattle.std.specs.List.{concat}
 use Rattle.std.specs.Io.KnownBytes.{Appends}
 use Rattle.scr_base.specs.Causes.{counted}
@@ -20,6 +20,10 @@ lines_of names given = concat (map (verdict_line names) given)
 abbrev pub stop_of_sink : SinkError → RunStop
 stop_of_sink sink.Failed = WriteFault
 stop_of_sink (sink.OutOfMemory want) = OutOfMemory want
+
+-- want of memory is no failed write
+pub no-fault : (want : memory.OutOfMemory) → OutOfMemory want ≢ WriteFault
+no-fault want e = absurd cc
 
 -- the text is written whole, or a front of it, maybe all
 abbrev pub StreamsText : {T : Type 0} → Option (List ℕ) → Option (List ℕ) → Result T RunStop → List ℕ → Type 0

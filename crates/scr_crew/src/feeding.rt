@@ -1,9 +1,10 @@
 //! The caller's part of a run: it feeds the lanes, and takes the verdicts.
-ghost use Rattle.std.specs.Prelude.{◌≡◌, List, length};
-ghost use Rattle.scr_log.specs.Passes.{LogsOf};
+ghost use Rattle.std.specs.Prelude.{◌≡◌, List, [], true};
+ghost use Rattle.scr_base.specs.declared.row.Row.{Row};
+ghost use Rattle.scr_base.specs.declared.row.Verdict.{Verdict};
 ghost use Rattle.scr_replica.specs.OneCore.{verdicts};
-ghost use Rattle.scr_crew.specs.Takings.{AreToCome};
-ghost use Rattle.scr_crew.specs.Takers.{HandsOn};
+ghost use Rattle.scr_crew.specs.Takers.{IsTaking, HandsOn};
+ghost use Rattle.scr_crew.specs.Trying.{HasTried};
 
 use crate::returning::take_home;
 use crate::run_stop::RunStop;
@@ -71,7 +72,11 @@ fn take_once<P: Program, T: Taker<O>, O, R: Wait>(
     taking: &mut Taking<P>,
     taker: &mut T,
     out: &mut O,
-) -> Result<Tried, RunStop> {
+) -> Result<Tried, RunStop>
+    requires { (verdict_after : List Row → Row → Verdict) × (before : O) × IsTaking T.IsToTake verdict_after plan.now before out.old taking.old taker.old }
+    ensures { (verdict_after : List Row → Row → Verdict) (before : O) → IsTaking T.IsToTake verdict_after plan.now before out.old taking.old taker.old
+        → HasTried T.IsToTake T.Stopped verdict_after plan.now before out.new taking.new taker.new result }
+{
     match taking.take_next(rt, plan) {
         Ready::Given(given) => {
             taker.take(out, given)?;
@@ -92,7 +97,13 @@ pub fn feed_and_take<P: Program, T: Taker<O>, O, R: Wait>(
     caller: &mut Caller<'_, P>,
     taker: &mut T,
     out: &mut O,
-) -> Result<bool, RunStop> {
+) -> Result<bool, RunStop>
+    requires logs { caller.old.free.logs ≡ logs.now }
+    requires taking { (verdict_after : List Row → Row → Verdict) × (before : O) × IsTaking T.IsToTake verdict_after plan.now before out.old caller.old.taking taker.old }
+    ensures logs { caller.new.free.logs ≡ logs.now }
+    ensures taken { (verdict_after : List Row → Row → Verdict) (before : O) → IsTaking T.IsToTake verdict_after plan.now before out.old caller.old.taking taker.old
+        → HandsOn T.IsToTake T.Stopped (verdicts verdict_after plan.now) before out.new (λ _. taker.new) (λ through rest. through ≡ true → rest ≡ []) result }
+{
     let pause = Backoff::new();
     for _ in rt.forever() {
         let fed = feed_once(rt, &mut caller.feed, &mut caller.spent)?;

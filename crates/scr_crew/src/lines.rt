@@ -1,5 +1,5 @@
 //! The lines of verdicts, by the names that a program has for them.
-ghost use Rattle.std.specs.Prelude.{◌≡◌, ◌<◌, ◌^◌, ◌++◌, ◌∷◌, [], List, length};
+ghost use Rattle.std.specs.Prelude.{◌≡◌, ℕ, ◌<◌, ◌^◌, ◌++◌, ◌∷◌, [], List, length, IfOk};
 ghost use Rattle.scr_base.specs.Causes.{CountsError};
 ghost use Rattle.scr_base.specs.Streams.{BatchesText};
 ghost use Rattle.scr_plan.specs.declared.given.Given.{Given};
@@ -35,9 +35,9 @@ fn put_given<P: Program, O: Sink>(
 // Counts a verdict for its name.
 #[inline]
 fn count(totals: &mut [u64], verdict: Verdict)
-    requires { (names : List (List _)) × (so_far : List Given) × (length so_far < 2 ^ 63) × (totals.old ≡ totals_of names so_far) }
-    ensures { (names : List (List _)) (so_far : List Given) (number : _) → totals.old ≡ totals_of names so_far
-        → totals.new ≡ totals_of names (so_far ++ record { number = number; verdict = verdict } ∷ []) }
+    requires { (names : List (List ℕ)) × (so_far : List Given) × (length so_far < 2 ^ 32) × (totals.old ≡ totals_of names so_far) }
+    ensures { (names : List (List ℕ)) (so_far : List Given) (given : Given) → totals.old ≡ totals_of names so_far → given.verdict ≡ verdict
+        → totals.new ≡ totals_of names (so_far ++ given ∷ []) }
 {
     let place = usize::from(verdict.0);
     if place < totals.len() {
@@ -56,7 +56,11 @@ pub struct Lines<P> {
 
 impl<P: Program> Lines<P> {
     /// No verdict is taken.
-    pub fn new(alloc: Global) -> Result<Self, OutOfMemory> {
+    pub fn new(alloc: Global) -> Result<Self, OutOfMemory>
+        ensures batch { IfOk result (λ it. it.batch ≡ []) }
+        ensures taken { IfOk result (λ it. it.taken ≡ 0) }
+        ensures totals { IfOk result (λ it. it.totals.items ≡ totals_of P.verdict_names []) }
+    {
         Ok(Lines {
             batch: Batch::new(),
             taken: 0,
@@ -66,14 +70,18 @@ impl<P: Program> Lines<P> {
     }
 
     /// How many verdicts were taken, and how often each name was given, in the order of the names.
-    pub fn into_counts(self) -> (u32, Vec<u64>) {
+    pub fn into_counts(self) -> (u32, Vec<u64>)
+        ensures taken { result.0 ≡ self.taken }
+        ensures totals { result.1.items ≡ self.totals.items }
+    {
         (self.taken, self.totals)
     }
 }
 
 /// A line for each verdict goes to a sink, by a batch.
 impl<P: Program, O: Sink> Taker<O> for Lines<P> {
-    ghost use Rattle.scr_crew.specs.Lines.{AreToWrite, IsStoppedWriting};
+    ghost use Rattle.std.specs.Prelude.{◌≡◌, []};
+    ghost use Rattle.scr_crew.specs.Lines.{AreToWrite, IsStoppedWriting, lacks};
 
     ghost IsToTake = { AreToWrite O.written O.faults O.wants P.verdict_names };
 
@@ -81,7 +89,7 @@ impl<P: Program, O: Sink> Taker<O> for Lines<P> {
 
     ghost Stopped = { IsStoppedWriting O.written O.faults O.wants P.verdict_names };
 
-    ghost may_lack = { lacks };
+    ghost may_lack = { lacks O.written O.faults O.wants P.verdict_names };
 
     fn take(&mut self, out: &mut O, given: Given) -> Result<(), RunStop> {
         put_given::<P, O>(given, &mut self.batch, out)?;

@@ -7,6 +7,7 @@ ghost use Rattle.scr_report.specs.Outcome.{totals_of};
 ghost use Rattle.scr_crew.specs.Streamed.{StreamsText, CountsStop, lines_of};
 
 use crate::crew::run_taken;
+use crate::joining::Tallies;
 use crate::lines::Lines;
 use crate::run_stop::RunStop;
 use scr_base::Sink;
@@ -53,15 +54,15 @@ pub fn run_streamed<P: Program, G: Gate + Sync, O: Sink, R: Threads + Wait + Syn
     ensures text { StreamsText (O.written out.old) (O.written out.new) result (lines_of P.verdict_names (verdicts (P.verdict_after settings.now) plan.now)) }
     ensures cause { CountsStop O.faults O.wants out.old out.new result }
 {
-    let mut lines = Lines::<P>::new(alloc)?;
-    let tallies = run_taken::<P, G, Lines<P>, O, R>(
-        rt, alloc, settings, plan, ring, gate, &mut lines, out,
+    let lines = Lines::<P>::new(alloc)?;
+    let (Tallies { cores, flows }, lines) = run_taken::<P, G, Lines<P>, O, R>(
+        rt, alloc, settings, plan, ring, gate, lines, out,
     )?;
     let (delivered, totals) = lines.into_counts();
     Ok(Streamed {
         delivered,
         totals,
-        cores: tallies.cores,
-        flows: tallies.flows,
+        cores,
+        flows,
     })
 }

@@ -53,6 +53,7 @@ fn keep(list: &mut Vec<Given>, given: Given) -> Result<(), OutOfMemory>
 /// A list keeps them.
 impl Taker<()> for Vec<Given> {
     ghost use Rattle.std.specs.Prelude.{◌≡◌, ◌≢◌, ◌++◌};
+    ghost use Rattle.scr_crew.specs.Streamed.{no-fault};
     ghost use Rattle.scr_crew.specs.declared.run_stop.RunStop.TheVariants.{WriteFault};
 
     ghost IsToTake = { λ list _ _ whole rest. whole ≡ list.items ++ rest };
@@ -61,7 +62,7 @@ impl Taker<()> for Vec<Given> {
 
     ghost Stopped = { λ stop _ _ _. stop ≢ WriteFault };
 
-    ghost may_lack = { λ _ _ _ _ _ _ _ is. absurd cc };
+    ghost may_lack = { λ list before now whole rest want is. no-fault want };
 
     fn take(&mut self, _out: &mut (), given: Given) -> Result<(), RunStop> {
         Ok(keep(self, given)?)

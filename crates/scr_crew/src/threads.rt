@@ -1,17 +1,14 @@
-ghost use Rattle.std.specs.Prelude.{◌≡◌, ◌≤◌, map, length, IfOk, IfSome};
+ghost use Rattle.std.specs.Prelude.{◌≡◌, ◌≤◌, map, IfOk};
 ghost use Rattle.std.specs.List.{range_with_len};
 ghost use Rattle.scr_plan.specs.Counts.{plan_counts};
 ghost use Rattle.scr_log.specs.Layout.{most_slots};
 ghost use Rattle.scr_replica.specs.OneCore.{verdicts, entries};
-ghost use Rattle.scr_replica.specs.Answers.{answer};
-ghost use Rattle.scr_crew.specs.Cores.{OfCores};
-ghost use Rattle.scr_crew.specs.Workers.{IsWorker};
-ghost use Rattle.scr_crew.specs.Threads.{IsThread};
 
 use crate::crew::run_taken;
+use crate::joining::Tallies;
 use crate::run_stop::RunStop;
 use scr_base::OutOfMemory;
-use scr_plan::RunPlan;
+use scr_plan::{Given, RunPlan};
 use scr_program::Program;
 use scr_replica::{Gate, Gathered};
 use std::alloc::Global;
@@ -34,21 +31,20 @@ pub fn run_threads<P: Program, G: Gate + Sync, R: Threads + Wait + Sync>(
     ensures cores { IfOk result (λ it. it.cores ≡ map (plan_counts plan.now) (range_with_len 0 plan.now.cores)) }
     ensures flows { IfOk result (λ it. it.flows ≡ entries (P.count_after settings.now) plan.now) }
 {
-    let mut verdicts = Vec::new(alloc);
-    match run_taken::<P, G, _, (), R>(
+    match run_taken::<P, G, Vec<Given>, (), R>(
         rt,
         alloc,
         settings,
         plan,
         ring,
         gate,
-        &mut verdicts,
+        Vec::new(alloc),
         &mut (),
     ) {
-        Ok(tallies) => Ok(Gathered {
+        Ok((Tallies { cores, flows }, verdicts)) => Ok(Gathered {
             verdicts,
-            cores: tallies.cores,
-            flows: tallies.flows,
+            cores,
+            flows,
         }),
         Err(RunStop::OutOfMemory(want)) => Err(want),
         Err(RunStop::WriteFault) => unreachable!(),

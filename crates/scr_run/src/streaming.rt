@@ -1,7 +1,10 @@
-ghost use Rattle.std.specs.Prelude.{◌≤◌, true};
+ghost use Rattle.std.specs.Prelude.{◌≡◌, ◌≤◌, [], true, map};
+ghost use Rattle.std.specs.List.{range_with_len};
 ghost use Rattle.scr_log.specs.Layout.{most_slots};
+ghost use Rattle.scr_plan.specs.Counts.{kept_count, plan_counts};
+ghost use Rattle.scr_plan.specs.Plan.{frame_count};
 ghost use Rattle.scr_report.specs.Outcome.{report_text};
-ghost use Rattle.scr_run.specs.Rules.{rules_after};
+ghost use Rattle.scr_run.specs.Rules.{ruled_by};
 ghost use Rattle.scr_run.specs.RunReport.{outcome_of};
 ghost use Rattle.scr_run.specs.Ends.{Ends, IsText, ended};
 
@@ -20,7 +23,18 @@ use std::sync::Wait;
 use std::thread::Threads;
 
 // What a run found whose verdicts have left, as a report without them.
-fn rest_on(alloc: Global, plan: &RunPlan, streamed: Streamed) -> Report {
+fn rest_on(alloc: Global, plan: &RunPlan, streamed: Streamed) -> Report
+    requires { streamed.cores.items ≡ map (plan_counts plan.now) (range_with_len 0 plan.now.cores) }
+    ensures { result ≡ record {
+      verdicts = [];
+      frames = frame_count plan.now;
+      delivered = streamed.delivered;
+      kept = kept_count plan.now;
+      cores = streamed.cores.items;
+      flows = streamed.flows;
+      totals = streamed.totals.items;
+    } }
+{
     let kept = kept_of(plan, &streamed.cores);
     Report {
         verdicts: Vec::new(alloc),
@@ -43,6 +57,8 @@ pub(crate) fn write_streamed<P: Program, O: Sink, G: Gate + Sync, R: Threads + W
 ) -> Result<(), Status>
     requires some_slots { 1 ≤ ring }
     requires few_slots { ring ≤ most_slots }
+    ensures ends { Ends (IsText (report_text P.verdict_names (outcome_of (ruled_by (P.row_of settings.now) (P.verdict_after settings.now) (P.count_after settings.now) P.verdict_names) plan.now) true))
+        ⊥ (Unit {0}) O.written 0 0 O.faults O.wants out.old out.new (ended result) }
 {
     let names = names_of::<P>(host.alloc)?;
     let streamed = run_streamed::<P, G, O, R>(

@@ -51,7 +51,13 @@ fn verdicts_of<R: Wait>(
     let mut workers = crew.ok_or("a crew")?.workers.into_iter();
     let worker = workers.next().ok_or("a core")?;
     let kept = run_core::<Ddos, OpenGate, R>(
-        rt, alloc, settings, worker.lane, worker.pass, &logs, &OpenGate,
+        rt,
+        alloc,
+        settings,
+        worker.lane,
+        worker.pass,
+        &logs,
+        &OpenGate,
     );
     match kept {
         Ok(kept) => Ok(kept.verdicts),
@@ -66,10 +72,21 @@ fn a_full_verdict_lane_gives_the_verdict_back(rt: HostRuntime) -> Result<(), Fai
     let verdicts = verdicts_of(&rt, rt.alloc(), &settings, &plan)?;
     let first = *verdicts.get(0).ok_or("a verdict")?;
     let second = *verdicts.get(1).ok_or("a second")?;
-    let (mut send, mut receive) =
-        VerdictLane::make::<Ddos>(rt.alloc(), &settings, &plan, 0, 1)?;
-    assert_eq!(rt; first, Given { number: 1, verdict: PASS });
-    assert_eq!(rt; second, Given { number: 2, verdict: PASS });
+    let (mut send, mut receive) = VerdictLane::make::<Ddos>(rt.alloc(), &settings, &plan, 0, 1)?;
+    assert_eq!(rt;
+        first,
+        Given {
+            number: 1,
+            verdict: PASS
+        }
+    );
+    assert_eq!(rt;
+        second,
+        Given {
+            number: 2,
+            verdict: PASS
+        }
+    );
     assert_eq!(rt; send.push(&rt, first), Ok(()));
     assert_eq!(rt; send.push(&rt, second), Err(second));
     assert_eq!(rt; receive.pop(&rt), Some(first));
