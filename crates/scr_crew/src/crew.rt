@@ -59,7 +59,7 @@ fn take_all<P: Program, T: Taker<O>, O, R: Wait>(
 
 // The caller's part of a run, once the threads are started: it feeds the lanes, gives the verdicts to the taker, and joins the
 // threads. Unless all verdicts are taken by then, it halts the run before it joins.
-fn lead<P: Program, T: Taker<O>, O, R: Threads + Wait>(
+fn lead<P: Program, T: Taker<O> + Drop, O, R: Threads + Wait>(
     rt: &R,
     alloc: Global,
     settings: &P::Settings,
@@ -96,7 +96,7 @@ fn lead_crew<
     E,
     P: Program + 's,
     G: Gate + Sync + 's,
-    T: Taker<O>,
+    T: Taker<O> + Drop,
     O,
     R: Threads + Wait + Sync + 's,
 >(
