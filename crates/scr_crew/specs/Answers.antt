@@ -8,7 +8,7 @@ use Rattle.scr_replica.specs.OneCore.{entries}
 use Rattle.scr_crew.specs.declared.core_out.CoreTotals.{CoreTotals}
 
 -- a core that has come to its end answers its number, its counts, and the one-core entries
-pub record IsAnswer (count_after : List Row → ℕ) (plan : Plan) (core : ℕ) (answer : Result CoreTotals Stop) : Type 0 where
-  pub core : IfOk answer (λ it. it.core ≡ core)
-  pub counts : IfOk answer (λ it. it.counts ≡ plan_counts plan core)
-  pub flows : IfOk answer (λ it. it.flows ≡ entries count_after plan)
+pub record IsAnswer {P Settings State : Type 0} (count_after : List Row → ℕ) (plan : Plan) (core : ℕ) (answer : Result (CoreTotals P Settings State) Stop) : Type 0 where
+  pub its_core : IfOk answer (λ it. it.core ≡ core)
+  pub its_counts : IfOk answer (λ it. it.counts ≡ plan_counts plan core)
+  pub its_flows : IfOk answer (λ it. it.flows ≡ entries count_after plan)

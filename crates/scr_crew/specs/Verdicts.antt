@@ -20,8 +20,8 @@ pub record IsNewVerdictEnd (verdict_after : List Row → Row → Verdict) (plan 
   pub unmoved : end.count ≡ 0
 
 -- an end has sent or taken one verdict more, and has looked before, or not
-abbrev pub HasMoved : (old new : End (List Given)) → Type 0
-HasMoved old new = (looked : End (List Given)) × HasLooked old looked × (new ≡ moved looked)
+abbrev pub HasMoved : {A : Type 0} → (old new : End A) → Type 0
+HasMoved {A} old new = (looked : End A) × HasLooked old looked × (new ≡ moved looked)
 
 -- a sending end that was given a front of this course, and is to get the rest
 pub record IsToGet (end : End (List Given)) (whole rest : List Given) : Type 0 where

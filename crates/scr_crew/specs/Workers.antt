@@ -16,7 +16,7 @@ pub record IsNewEnd (plan : Plan) (core : ℕ) (end : End Route) : Type 0 where
   pub untaken : end.count ≡ 0
 
 -- a core that is about to begin, with a pass from these logs, and with a new end of its verdict lane
-pub record IsWorker (verdict_after : List Row → Row → Verdict) (logs : LogsOf) (core : ℕ) (worker : Worker) : Type 0 where
+pub record IsWorker {P Settings State : Type 0} (verdict_after : List Row → Row → Verdict) (logs : LogsOf) (core : ℕ) (worker : Worker P Settings State) : Type 0 where
   pub of_these : worker.pass.logs ≡ logs
   pub its_core : worker.pass.core ≡ core
   pub begin : Begin worker.lane worker.pass

@@ -127,6 +127,25 @@ impl VerdictLane {
     }
 }
 
+// Sends the item that comes next, or gives it back where the lane has no room. It names no program, so that a method of a
+// trait may call it too.
+fn offer<A, C: Course<Given, A>, R: Wait>(
+    rt: &R,
+    end: &mut Sender<Given, A, C>,
+    given: Given,
+) -> Result<(), Given>
+    requires { C.fits end.old.about end.old.count given }
+    ensures sent { OnOk result (HasMoved end.old end.new) }
+    ensures back { IfErr result (λ back. back ≡ given) }
+    ensures full { OnErr result (FoundNoRoom end.old end.new) }
+{
+    if !end.has_room() {
+        return Err(given);
+    }
+    end.push(rt, given);
+    Ok(())
+}
+
 impl<P: Program> VerdictSend<P> {
     /// Sends the verdict that comes next, where the lane has room by its newest look. It may wait for the queue, and not for
     /// room.
@@ -139,11 +158,7 @@ impl<P: Program> VerdictSend<P> {
         ensures back { IfErr result (λ back. back ≡ given) }
         ensures full { OnErr result (FoundNoRoom self.old self.new) }
     {
-        if !self.end.has_room() {
-            return Err(given);
-        }
-        self.end.push(rt, given);
-        Ok(())
+        offer(rt, &mut self.end, given)
     }
 }
 
@@ -169,7 +184,7 @@ impl<P: Program> Outlet for VerdictSend<P> {
     ghost Awaits = { IsToGet };
 
     fn give<R: Wait>(&mut self, rt: &R, given: Given) -> Result<bool, OutOfMemory> {
-        Ok(self.push(rt, given).is_ok())
+        Ok(offer(rt, &mut self.end, given).is_ok())
     }
 
     fn take_back(&mut self, spent: Packet) {

@@ -1,5 +1,7 @@
 ghost use Rattle.std.specs.Prelude.{◌≡◌, length, IfOk, IfSome};
+ghost use Rattle.scr_replica.specs.Replicas.{Begin};
 ghost use Rattle.scr_crew.specs.Cores.{OfCores};
+ghost use Rattle.scr_crew.specs.Verdicts.{IsNewVerdictEnd};
 ghost use Rattle.scr_crew.specs.Workers.{IsWorker};
 ghost use Rattle.scr_crew.specs.Threads.{IsThread};
 ghost use Rattle.scr_crew.specs.Answers.{IsAnswer};
@@ -59,7 +61,9 @@ fn start_worker<'s, E, P: Program + 's, G: Gate + Sync + 's, R: Wait + Sync + 's
         .spawn_with(
             work,
             move || -> Result<CoreTotals<P>, CoreStop>
-                requires { IsWorker (P.verdict_after settings.now) logs.now pass.core (record { lane = lane; pass = pass; out = out }) }
+                requires of_these { pass.logs ≡ logs.now }
+                requires begin { Begin lane pass }
+                requires verdicts { IsNewVerdictEnd (P.verdict_after settings.now) logs.now.plan pass.core out.outlet }
                 ensures { IsAnswer (P.count_after settings.entry.now) logs.entry.now.plan pass.core result }
             { run_core_home::<P, G, R>(rt, alloc, settings, lane, pass, logs, gate, out) },
         )

@@ -75,7 +75,7 @@ pub fn claim_all<P: Program>(
     ensures spent { IfOk result (λ all. IfSome all (λ crew. length crew.spent.items ≡ plan.now.cores)) }
     ensures free { free.new.logs ≡ logs.now }
 {
-    let cores = ends.len();
+    let cores = plan.cores() as usize;
     let mut workers = Vec::with_capacity(alloc, cores)?;
     let mut verdicts = Vec::with_capacity(alloc, cores)?;
     let mut spent = Vec::with_capacity(alloc, cores)?;
