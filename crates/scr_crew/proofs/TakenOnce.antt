@@ -1,6 +1,6 @@
 -- The verdict of a frame is taken where it comes by the lane of its core.
 use Rattle.std.proofs.Common.{◌≡◌, ◌≢◌, ℕ, zero, suc, ◌+◌, ◌-◌, ◌<◌, ◌≤◌, Bool, true, false, cond, ◌&&◌, List, [], ◌∷◌, length, get_or, set, drop, inl, inr, Option, Some, None, arith, refl, sym, ap, ◌∙◌, subst}
-use Rattle.std.specs.Prelude.{filter_map, MatchOption}
+use Rattle.std.specs.Prelude.{filter_map, MatchOption, IfSome, OnSome}
 use Rattle.std.specs.List.{range_with_len, cons_option, slice_get}
 use Rattle.std.specs.Option.{option_map}
 use Rattle.std.proofs.lemmas.Bool.{cases_eq}
@@ -38,6 +38,13 @@ first-taken old new given stands has =
     drop-get old.about old.count given stands
     ∙ ap (λ (n : ℕ). given ∷ drop n old.about) (sym count)
     ∙ ap (λ (xs : List Given). given ∷ drop new.count xs) (sym about)
+
+-- the same over what a try to take gave, where none was held
+pub first-of : (old new : End (List Given)) (held result : Option Given) → held ≡ None → IfSome result (StandsIn old.about old.count) → OnSome result (HasMoved old new)
+    → IfSome result (λ given. still_to_come old held ≡ given ∷ still_to_come new None)
+first-of old new (Some given) result none stands has = absurd cc
+first-of old new None None none stands has = tt
+first-of old new None (Some given) none stands has = first-taken old new given stands has
 
 -- where nothing is found, the same is to come
 pub none-taken : (old new : End (List Given)) → FoundNothing old new → still_to_come new None ≡ still_to_come old None

@@ -16,9 +16,9 @@ use Rattle.scr_crew.specs.declared.lines.Lines.{Lines}
 use Rattle.scr_crew.specs.Streamed.{lines_of, stop_of_sink}
 use Rattle.scr_crew.specs.Lines.{AreToWrite, IsStoppedWriting, lines-append}
 
-module _ {O : Type 0} (written : O → Option (List ℕ)) (faults wants : O → ℕ) (names : List (List ℕ)) where
+module _ {P O : Type 0} (written : O → Option (List ℕ)) (faults wants : O → ℕ) (names : List (List ℕ)) where
   -- nothing is taken yet
-  pub writes-none : (lines : Lines) (now : O) (whole : List Given) → length whole < 2 ^ 32 → All (λ (given : Given). given.verdict.0 < length names) whole
+  pub writes-none : (lines : Lines P) (now : O) (whole : List Given) → length whole < 2 ^ 32 → All (λ (given : Given). given.verdict.0 < length names) whole
       → lines.batch ≡ [] → lines.taken ≡ 0 → lines.totals.items ≡ totals_of names [] → AreToWrite written faults wants names lines now now whole whole
   writes-none lines now whole few named batch taken totals = record {
     front = [];
@@ -44,9 +44,9 @@ module _ {O : Type 0} (written : O → Option (List ℕ)) (faults wants : O → 
     λ want e. (let now = counts.out_of_memory lack refl in (now.0 ∙ calm-faults, inr (now.1 ∙ ap counted calm-wants))),
   )
 
-  module _ (lines : Lines) (before out : O) (whole rest : List Given) where
+  module _ (lines : Lines P) (before out : O) (whole rest : List Given) where
     -- the line of the next verdict went through
-    pub writes-one : (given : Given) (new : Lines) (now : O) → AreToWrite written faults wants names lines before out whole (given ∷ rest)
+    pub writes-one : (given : Given) (new : Lines P) (now : O) → AreToWrite written faults wants names lines before out whole (given ∷ rest)
         → Passes (written out) (written now) lines.batch new.batch (verdict_line names given) → (faults now ≡ faults out) × (wants now ≡ wants out)
         → ((so_far : List Given) → lines.totals.items ≡ totals_of names so_far → new.totals.items ≡ totals_of names (so_far ++ given ∷ []))
         → new.taken ≡ lines.taken + 1 → AreToWrite written faults wants names new before now whole rest
@@ -85,7 +85,7 @@ module _ {O : Type 0} (written : O → Option (List ℕ)) (faults wants : O → 
         }
 
     -- what is held went out
-    pub writes-held : (new : Lines) (now : O) → AreToWrite written faults wants names lines before out whole rest → Appends (written out) (written now) lines.batch
+    pub writes-held : (new : Lines P) (now : O) → AreToWrite written faults wants names lines before out whole rest → Appends (written out) (written now) lines.batch
         → (faults now ≡ faults out) × (wants now ≡ wants out) → new.batch ≡ [] → new.taken ≡ lines.taken → new.totals.items ≡ lines.totals.items
         → AreToWrite written faults wants names new before now whole rest
     writes-held new now is gained calm empty taken totals = record {
@@ -110,7 +110,7 @@ module _ {O : Type 0} (written : O → Option (List ℕ)) (faults wants : O → 
         stops-in [] (lines_of names rest) now error is (subst (λ (t : List ℕ). StopsWithin (written out) (written now) t) (sym (append-nil lines.batch)) stops) counts refl
 
   -- the line of the next verdict stopped within
-  pub stops-at : (lines : Lines) (before out : O) (whole rest : List Given) (given : Given) (now : O) (error : SinkError)
+  pub stops-at : (lines : Lines P) (before out : O) (whole rest : List Given) (given : Given) (now : O) (error : SinkError)
       → AreToWrite written faults wants names lines before out whole (given ∷ rest)
       → StopsWithin (written out) (written now) (lines.batch ++ verdict_line names given) → CountsError faults wants out now (Err {A = Unit {0}} error)
       → IsStoppedWriting written faults wants names (stop_of_sink error) before now whole

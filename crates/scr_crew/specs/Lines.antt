@@ -15,9 +15,9 @@ use Rattle.scr_crew.specs.declared.run_stop.RunStop.TheVariants.{WriteFault, Out
 use Rattle.scr_crew.specs.declared.lines.Lines.{Lines}
 use Rattle.scr_crew.specs.Streamed.{lines_of}
 
-module _ {O : Type 0} (written : O → Option (List ℕ)) (faults wants : O → ℕ) (names : List (List ℕ)) where
+module _ {P O : Type 0} (written : O → Option (List ℕ)) (faults wants : O → ℕ) (names : List (List ℕ)) where
   -- a front of these verdicts was taken: their lines went through the batch, they are counted, and no write failed
-  pub record AreToWrite (lines : Lines) (before now : O) (whole rest : List Given) : Type 0 where
+  pub record AreToWrite (lines : Lines P) (before now : O) (whole rest : List Given) : Type 0 where
     pub front : List Given
     pub parts : whole ≡ front ++ rest
     pub few : length whole < 2 ^ 32
@@ -39,7 +39,7 @@ module _ {O : Type 0} (written : O → Option (List ℕ)) (faults wants : O → 
   lines-append xs ys = ap concat (map-append (verdict_line names) xs ys) ∙ concat-append (map (verdict_line names) xs) (map (verdict_line names) ys)
 
   -- where there is no memory, a front of the lines is written
-  pub lacks : (lines : Lines) (before now : O) (whole rest : List Given) (want : memory.OutOfMemory) → AreToWrite lines before now whole rest
+  pub lacks : (lines : Lines P) (before now : O) (whole rest : List Given) (want : memory.OutOfMemory) → AreToWrite lines before now whole rest
       → IsStoppedWriting (OutOfMemory want) before now whole
   lacks lines before now whole rest want is = record {
     text = record {

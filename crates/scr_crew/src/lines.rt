@@ -1,36 +1,16 @@
 //! The lines of verdicts, by the names that a program has for them.
 ghost use Rattle.std.specs.Prelude.{◌≡◌, ℕ, ◌<◌, ◌^◌, ◌++◌, ◌∷◌, [], List, length, IfOk};
-ghost use Rattle.scr_base.specs.Causes.{CountsError};
-ghost use Rattle.scr_base.specs.Streams.{BatchesText};
 ghost use Rattle.scr_plan.specs.declared.given.Given.{Given};
 ghost use Rattle.scr_report.specs.Outcome.{totals_of};
-ghost use Rattle.scr_report.specs.Text.{verdict_line};
 
 use crate::run_stop::RunStop;
 use crate::taker::Taker;
-use scr_base::{Batch, OutOfMemory, Sink, SinkError, Verdict};
+use scr_base::{Batch, OutOfMemory, Sink, Verdict};
 use scr_plan::Given;
 use scr_program::Program;
 use scr_report::put_line;
 use std::alloc::Global;
 use std::marker::PhantomData;
-
-// Puts the line of a verdict through a batch.
-#[inline]
-fn put_given<P: Program, O: Sink>(
-    given: Given,
-    batch: &mut Batch,
-    out: &mut O,
-) -> Result<(), SinkError>
-    requires { given.verdict.0 < length P.verdict_names }
-    ensures text { BatchesText (O.written out.old) (O.written out.new) batch.old batch.new result (verdict_line P.verdict_names given) }
-    ensures cause { CountsError O.faults O.wants out.old out.new result }
-{
-    match P::name_of(given.verdict) {
-        Some(name) => put_line(name, given.number, batch, out),
-        None => unreachable!(),
-    }
-}
 
 // Counts a verdict for its name.
 #[inline]
@@ -92,7 +72,10 @@ impl<P: Program, O: Sink> Taker<O> for Lines<P> {
     ghost may_lack = { lacks O.written O.faults O.wants P.verdict_names };
 
     fn take(&mut self, out: &mut O, given: Given) -> Result<(), RunStop> {
-        put_given::<P, O>(given, &mut self.batch, out)?;
+        let Some(name) = P::name_of(given.verdict) else {
+            unreachable!()
+        };
+        put_line(name, given.number, &mut self.batch, out)?;
         count(&mut self.totals, given.verdict);
         self.taken += 1;
         Ok(())

@@ -1,11 +1,13 @@
 //! Verdicts are taken from the lanes of all cores in the order of the frames.
-ghost use Rattle.std.specs.Prelude.{◌≡◌, ◌+◌, ◌≤◌, ◌<◌, List, length, IfOk};
+ghost use Rattle.std.specs.Prelude.{◌≡◌, ◌+◌, ◌≤◌, ◌^◌, false, ◌<◌, List, [], length, slice_set, slice_index_or, IfOk};
 ghost use Rattle.scr_base.specs.declared.row.Row.{Row};
 ghost use Rattle.scr_base.specs.declared.row.Verdict.{Verdict};
-ghost use Rattle.scr_plan.specs.Plan.{Plan};
+ghost use Rattle.scr_plan.specs.declared.given.Given.{Given};
+ghost use Rattle.scr_plan.specs.Delivered.{delivers};
+ghost use Rattle.scr_plan.specs.Plan.{Plan, frame_count};
 ghost use Rattle.scr_crew.specs.Cores.{OfCores};
 ghost use Rattle.scr_crew.specs.Verdicts.{IsNewVerdictEnd};
-ghost use Rattle.scr_crew.specs.Takings.{AreToCome, ReadyTells};
+ghost use Rattle.scr_crew.specs.Takings.{FrontTells, AreToCome, ReadyTells};
 
 use crate::arrivals::{Arrivals, Front};
 use crate::verdict_lane::VerdictReceive;
@@ -46,6 +48,15 @@ impl<P: Program> Model for Taking<P> {
     ghost view = { λ it. record { next = it.next; to_come = it.arrivals.items } };
 }
 
+// Takes the verdict of frame n by the lane of its core, where it is the one that comes next there.
+#[inline]
+fn take_of<P: Program, R: Wait>(rt: &R, arrivals: &mut [Arrivals<P>], core: usize, n: u32) -> Front
+    requires { core < length arrivals.old }
+    ensures { (after : List Given) × (arrivals.new ≡ slice_set arrivals.old core after) × FrontTells n (slice_index_or arrivals.old core []) after result }
+{
+    arrivals[core].take_at(rt, n)
+}
+
 impl<P: Program> Taking<P> {
     /// Nothing is taken by these ends, which stand core by core.
     pub fn by(alloc: Global, ends: Vec<VerdictReceive<P>>) -> Result<Self, OutOfMemory>
@@ -65,7 +76,10 @@ impl<P: Program> Taking<P> {
 
     // The next frame's turn comes.
     #[inline]
-    fn pass(&mut self) {
+    fn pass(&mut self)
+        requires { self.old.next < 2 ^ 31 }
+        ensures { self.new ≡ record self.old { next = self.old.next + 1 } }
+    {
         self.next += 1;
         self.awaited = false;
     }
@@ -83,7 +97,7 @@ impl<P: Program> Taking<P> {
             return Ready::All;
         }
         let core = core_of(n, plan.cores()) as usize;
-        match self.arrivals[core].take_at(rt, n) {
+        match take_of(rt, &mut self.arrivals, core, n) {
             Front::Its(given) => {
                 self.pass();
                 Ready::Given(given)
@@ -101,7 +115,12 @@ impl<P: Program> Taking<P> {
     }
 
     // Whether the frame whose turn it is, of so many, is delivered.
-    fn awaits(&mut self, plan: &RunPlan, frames: u32) -> bool {
+    fn awaits(&mut self, plan: &RunPlan, frames: u32) -> bool
+        requires frames { frames ≡ frame_count plan.now }
+        requires next { (1 ≤ self.old.next) × (self.old.next ≤ frames) }
+        ensures no { result ≡ false → delivers plan.now self.old.next ≡ false }
+        ensures same { self.new ≡ self.old }
+    {
         if !self.awaited {
             self.awaited = plan.link().delivered(plan.cores(), frames, self.next);
         }

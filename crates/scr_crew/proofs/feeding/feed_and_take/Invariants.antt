@@ -9,6 +9,6 @@ abbrev pub invariant-loop : goal.invariant-loop
 invariant-loop g l =
     (l.caller.free.logs ≡ l.fn.logs)
     × ((verdict_after : List Row → Row → Verdict) (before : _) → IsTaking g.T.Taker.IsToTake verdict_after l.fn.plan before l.fn.out l.fn.caller.taking l.fn.taker
-        → IsTaking g.T.Taker.IsToTake verdict_after l.fn.plan before l.out l.caller.taking l.taker)
+    → IsTaking g.T.Taker.IsToTake verdict_after l.fn.plan before l.out l.caller.taking l.taker)
     × (goal.iterator-loop g).can_next l.iterator'
     × (goal.iterator-loop g).is_finished l.iterator'
