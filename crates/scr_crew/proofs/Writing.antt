@@ -16,6 +16,20 @@ use Rattle.scr_crew.specs.declared.lines.Lines.{Lines}
 use Rattle.scr_crew.specs.Streamed.{lines_of, stop_of_sink}
 use Rattle.scr_crew.specs.Lines.{AreToWrite, IsStoppedWriting, lines-append}
 
+module _ {O : Type 0} (faults wants : O → ℕ) where
+  -- a sink that answers an error counts it by its kind
+  stops-counting : (before out now : O) (error : SinkError) → CountsError faults wants out now (Err {A = Unit {0}} error) → faults out ≡ faults before → wants out ≡ wants before
+      → (stop_of_sink error ≡ WriteFault → (faults now ≡ counted (faults before)) × (wants now ≡ wants before))
+      × ((want : memory.OutOfMemory) → stop_of_sink error ≡ OutOfMemory want → (faults now ≡ faults before) × ((wants now ≡ wants before) ⊎ (wants now ≡ counted (wants before))))
+  stops-counting before out now sink.Failed counts calm-faults calm-wants = (
+    λ e. (let now = counts.failed refl in (now.0 ∙ ap counted calm-faults, now.1 ∙ calm-wants)),
+    λ want e. absurd cc,
+  )
+  stops-counting before out now (sink.OutOfMemory lack) counts calm-faults calm-wants = (
+    λ e. absurd cc,
+    λ want e. (let now = counts.out_of_memory lack refl in (now.0 ∙ calm-faults, inr (now.1 ∙ ap counted calm-wants))),
+  )
+
 module _ {P O : Type 0} (written : O → Option (List ℕ)) (faults wants : O → ℕ) (names : List (List ℕ)) where
   -- nothing is taken yet
   pub writes-none : (lines : Lines P) (now : O) (whole : List Given) → length whole < 2 ^ 32 → All (λ (given : Given). given.verdict.0 < length names) whole
@@ -31,19 +45,6 @@ module _ {P O : Type 0} (written : O → Option (List ℕ)) (faults wants : O �
     calm = (refl, refl);
   }
 
-  -- a sink that answers an error counts it by its kind
-  stops-counting : (before out now : O) (error : SinkError) → CountsError faults wants out now (Err {A = Unit {0}} error) → faults out ≡ faults before → wants out ≡ wants before
-      → (stop_of_sink error ≡ WriteFault → (faults now ≡ counted (faults before)) × (wants now ≡ wants before))
-      × ((want : memory.OutOfMemory) → stop_of_sink error ≡ OutOfMemory want → (faults now ≡ faults before) × ((wants now ≡ wants before) ⊎ (wants now ≡ counted (wants before))))
-  stops-counting before out now sink.Failed counts calm-faults calm-wants = (
-    λ e. (let now = counts.failed refl in (now.0 ∙ ap counted calm-faults, now.1 ∙ calm-wants)),
-    λ want e. absurd cc,
-  )
-  stops-counting before out now (sink.OutOfMemory lack) counts calm-faults calm-wants = (
-    λ e. absurd cc,
-    λ want e. (let now = counts.out_of_memory lack refl in (now.0 ∙ calm-faults, inr (now.1 ∙ ap counted calm-wants))),
-  )
-
   module _ (lines : Lines P) (before out : O) (whole rest : List Given) where
     -- the line of the next verdict went through
     pub writes-one : (given : Given) (new : Lines P) (now : O) → AreToWrite written faults wants names lines before out whole (given ∷ rest)
@@ -54,7 +55,7 @@ module _ {P O : Type 0} (written : O → Option (List ℕ)) (faults wants : O �
         let line : List ℕ = verdict_line names given in
         let one : lines_of names (given ∷ []) ≡ line = append-nil line in
         let text : lines_of names is.front ++ line ≡ lines_of names (is.front ++ given ∷ []) =
-        ap (λ (t : List ℕ). lines_of names is.front ++ t) (sym one) ∙ sym (lines-append written faults wants names is.front (given ∷ [])) in
+        ap (λ (t : List ℕ). lines_of names is.front ++ t) (sym one) ∙ sym (lines-append names is.front (given ∷ [])) in
         record {
           front = is.front ++ given ∷ [];
           parts = is.parts ∙ sym (append_assoc is.front (given ∷ []) rest);
@@ -74,10 +75,10 @@ module _ {P O : Type 0} (written : O → Option (List ℕ)) (faults wants : O �
     stops-in text after now error is stops counts front =
         let all : List ℕ = lines_of names is.front in
         let whole-is : all ++ (text ++ after) ≡ lines_of names whole =
-        ap (λ (t : List ℕ). all ++ t) (sym front) ∙ sym (lines-append written faults wants names is.front rest) ∙ ap (lines_of names) (sym is.parts) in
+        ap (λ (t : List ℕ). all ++ t) (sym front) ∙ sym (lines-append names is.front rest) ∙ ap (lines_of names) (sym is.parts) in
         let behind : StopsWithin (written before) (written now) (all ++ text) = Passes-stops (written before) (written out) (written now) [] lines.batch all text is.passed stops in
         let longer : StopsWithin (written before) (written now) (all ++ (text ++ after)) = StopsWithin-longer (written before) (written now) all text after behind in
-        let tells = stops-counting before out now error counts is.calm.0 is.calm.1 in
+        let tells = stops-counting faults wants before out now error counts is.calm.0 is.calm.1 in
         record {
           text = subst (λ (t : List ℕ). AppendsPrefix (written before) (written now) t) whole-is (StopsWithin-front (written before) (written now) (all ++ (text ++ after)) longer);
           write_fault = tells.0;

@@ -15,18 +15,11 @@ use Rattle.scr_crew.specs.declared.run_stop.RunStop.TheVariants.{WriteFault, Out
 use Rattle.scr_crew.specs.declared.lines.Lines.{Lines}
 use Rattle.scr_crew.specs.Streamed.{lines_of}
 
-module _ {P O : Type 0} (written : O → Option (List ℕ)) (faults wants : O → ℕ) (names : List (List ℕ)) where
-  -- a front of these verdicts was taken: their lines went through the batch, they are counted, and no write failed
-  pub record AreToWrite (lines : Lines P) (before now : O) (whole rest : List Given) : Type 0 where
-    pub front : List Given
-    pub parts : whole ≡ front ++ rest
-    pub few : length whole < 2 ^ 32
-    pub named : All (λ (given : Given). given.verdict.0 < length names) whole
-    pub passed : Passes (written before) (written now) [] lines.batch (lines_of names front)
-    pub taken : lines.taken ≡ length front
-    pub totals : lines.totals.items ≡ totals_of names front
-    pub calm : (faults now ≡ faults before) × (wants now ≡ wants before)
+-- the lines of two lists are those of one, and then those of the other
+pub lines-append : (names : List (List ℕ)) (xs ys : List Given) → lines_of names (xs ++ ys) ≡ lines_of names xs ++ lines_of names ys
+lines-append names xs ys = ap concat (map-append (verdict_line names) xs ys) ∙ concat-append (map (verdict_line names) xs) (map (verdict_line names) ys)
 
+module _ {O : Type 0} (written : O → Option (List ℕ)) (faults wants : O → ℕ) (names : List (List ℕ)) where
   -- a front of the lines is written, and the sink has counted what stopped it, where it was the sink
   pub record IsStoppedWriting (stop : RunStop) (before now : O) (whole : List Given) : Type 0 where
     pub text : AppendsPrefix (written before) (written now) (lines_of names whole)
@@ -34,24 +27,32 @@ module _ {P O : Type 0} (written : O → Option (List ℕ)) (faults wants : O �
     pub out_of_memory : (want : memory.OutOfMemory) → stop ≡ OutOfMemory want
         → (faults now ≡ faults before) × ((wants now ≡ wants before) ⊎ (wants now ≡ counted (wants before)))
 
-  -- the lines of two lists are those of one, and then those of the other
-  pub lines-append : (xs ys : List Given) → lines_of names (xs ++ ys) ≡ lines_of names xs ++ lines_of names ys
-  lines-append xs ys = ap concat (map-append (verdict_line names) xs ys) ∙ concat-append (map (verdict_line names) xs) (map (verdict_line names) ys)
+  module _ {P : Type 0} where
+    -- a front of these verdicts was taken: their lines went through the batch, they are counted, and no write failed
+    pub record AreToWrite (lines : Lines P) (before now : O) (whole rest : List Given) : Type 0 where
+      pub front : List Given
+      pub parts : whole ≡ front ++ rest
+      pub few : length whole < 2 ^ 32
+      pub named : All (λ (given : Given). given.verdict.0 < length names) whole
+      pub passed : Passes (written before) (written now) [] lines.batch (lines_of names front)
+      pub taken : lines.taken ≡ length front
+      pub totals : lines.totals.items ≡ totals_of names front
+      pub calm : (faults now ≡ faults before) × (wants now ≡ wants before)
 
-  -- where there is no memory, a front of the lines is written
-  pub lacks : (lines : Lines P) (before now : O) (whole rest : List Given) (want : memory.OutOfMemory) → AreToWrite lines before now whole rest
-      → IsStoppedWriting (OutOfMemory want) before now whole
-  lacks lines before now whole rest want is = record {
-    text = record {
-      sent = is.passed.sent;
-      rest = lines.batch ++ lines_of names rest;
-      gained = is.passed.gained;
-      parts =
-          ap (lines_of names) is.parts
-          ∙ lines-append is.front rest
-          ∙ ap (λ (text : List ℕ). text ++ lines_of names rest) is.passed.parts
-          ∙ append_assoc is.passed.sent lines.batch (lines_of names rest);
-    };
-    write_fault = λ e. absurd cc;
-    out_of_memory = λ other e. (is.calm.0, inl is.calm.1);
-  }
+    -- where there is no memory, a front of the lines is written
+    pub lacks : (lines : Lines P) (before now : O) (whole rest : List Given) (want : memory.OutOfMemory) → AreToWrite lines before now whole rest
+        → IsStoppedWriting (OutOfMemory want) before now whole
+    lacks lines before now whole rest want is = record {
+      text = record {
+        sent = is.passed.sent;
+        rest = lines.batch ++ lines_of names rest;
+        gained = is.passed.gained;
+        parts =
+            ap (lines_of names) is.parts
+            ∙ lines-append names is.front rest
+            ∙ ap (λ (text : List ℕ). text ++ lines_of names rest) is.passed.parts
+            ∙ append_assoc is.passed.sent lines.batch (lines_of names rest);
+      };
+      write_fault = λ e. absurd cc;
+      out_of_memory = λ other e. (is.calm.0, inl is.calm.1);
+    }

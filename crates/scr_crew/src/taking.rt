@@ -60,8 +60,9 @@ fn take_of<P: Program, R: Wait>(rt: &R, arrivals: &mut [Arrivals<P>], core: usiz
 impl<P: Program> Taking<P> {
     /// Nothing is taken by these ends, which stand core by core.
     pub fn by(alloc: Global, ends: Vec<VerdictReceive<P>>) -> Result<Self, OutOfMemory>
-        ensures { (verdict_after : List Row → Row → Verdict) (plan : Plan) → OfCores (IsNewVerdictEnd verdict_after plan) plan.cores ends.items
+        ensures coming { (verdict_after : List Row → Row → Verdict) (plan : Plan) → OfCores (IsNewVerdictEnd verdict_after plan) plan.cores ends.items
             → IfOk result (AreToCome verdict_after plan) }
+        ensures next { IfOk result (λ it. it.next ≡ 1) }
     {
         let mut arrivals = Vec::with_capacity(alloc, ends.len())?;
         for end in ends {
