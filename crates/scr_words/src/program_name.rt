@@ -2,6 +2,8 @@ ghost use Rattle.std.specs.Prelude.{◌≡◌, true};
 ghost use Rattle.std.specs.Option.{option_map_or};
 ghost use Rattle.scr_words.specs.Operands.{one_name, one_named, program_name, program_named, is_in_chain, takes_those_of};
 
+use crate::settings::Command;
+
 /// The five programs, as words name them.
 #[derive(Clone, Copy, PartialEq, Eq)]
 pub(crate) enum OneName {
@@ -81,13 +83,13 @@ impl OneName {
 }
 
 impl ProgramName {
-    /// The program with this name.
-    pub(crate) fn named(name: &[u8]) -> Option<ProgramName>
-        ensures { result ≡ program_named name.now }
+    /// The program with this name, of those that a command knows.
+    pub(crate) fn named(command: Command, name: &[u8]) -> Option<ProgramName>
+        ensures { result ≡ program_named command name.now }
     {
         PROGRAMS
             .iter()
-            .find(|program| program.name() == name)
+            .find(|program| command.knows(**program) && program.name() == name)
             .copied()
     }
 

@@ -7,6 +7,6 @@ use Rattle.scr_words.proofs.choosing.history.Goals as goal
 
 pub spelled-requires-clause-faultless : goal.spelled-requires-clause-faultless
 spelled-requires-clause-faultless c =
-    let found : given (table History).name c.args.operands.now ≡ Some c.in-Some.text.now =
-    ap (λ (name : List ℕ). given name c.args.operands.now) (sym c.line.ensures.name) ∙ sym c.given.ensures ∙ ap option_copied c.in-Some.is in
-    c.requires.values History c.in-Some.text.now found
+    let found : given (table History).name c.args.tested.operands.now ≡ Some c.in-Some.text.now =
+    ap (λ (name : List ℕ). given name c.args.tested.operands.now) (sym c.line.ensures.name) ∙ sym c.given.ensures ∙ ap option_copied c.in-Some.is in
+    (c.args.tested.command, c.requires.values History c.in-Some.text.now found)
