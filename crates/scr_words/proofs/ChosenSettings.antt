@@ -110,34 +110,32 @@ is_table : {a b : List Rule} (e : a ≡ b) (p : IsTable a) (q : IsTable b) → P
 is_table {b = b} e p q = to_path_p (λ i. IsTable (e i)) (IsTable-prop b _ q)
 
 -- a program that is named is one that the command knows
-find-passes : {A : Type 0} (test : A → Bool) (items : List A) (item : A) → find test items ≡ Some item → test item ≡ true
-find-passes test [] item is = absurd cc
-find-passes test (first ∷ items) item is = by (test first) refl is
-  where
-    by : (passes : Bool) → test first ≡ passes → cond passes (Some first) (find test items) ≡ Some item → test item ≡ true
-    by true passes same = subst (λ (x : _). test x ≡ true) cc passes
-    by false passes same = find-passes test items item same
+module _ {A : Type 0} (test : A → Bool) where
+  passes-by : (passes : Bool) (first item : A) (rest : Option A) → test first ≡ passes → (rest ≡ Some item → test item ≡ true)
+      → cond passes (Some first) rest ≡ Some item → test item ≡ true
+  passes-by true first item rest is later same =
+      let found : first ≡ item = cc in
+      subst (λ (x : A). test x ≡ true) found is
+  passes-by false first item rest is later same = later same
 
-knows-named : (command : Command) (found : Option (List ℕ)) (program : ProgramName) → option_and_then (program_named command) found ≡ Some program
-    → knows command program ≡ true
+  find-passes : (items : List A) (item : A) → find test items ≡ Some item → test item ≡ true
+  find-passes [] item is = absurd cc
+  find-passes (first ∷ items) item is = passes-by (test first) first item (find test items) refl (find-passes items item) is
+
+knows-named : (command : Command) (found : Option (List ℕ)) (named : ProgramName) → option_and_then (program_named command) found ≡ Some named
+    → knows command named ≡ true
 unfolding program_named
-knows-named command None program is = absurd cc
-knows-named command (Some name) program is =
-    (and_parts (knows command program) (bytes_eq (program_name program) name)
-    (find-passes (λ p. knows command p && bytes_eq (program_name p) name) all_programs program is)).0
+knows-named command None named is = absurd cc
+knows-named command (Some text) named is =
+    (and_parts (knows command named) (bytes_eq (program_name named) text)
+    (find-passes (λ p. knows command p && bytes_eq (program_name p) text) all_programs named is)).0
 
+-- the command of accepted words knows what they choose
 pub runs-from : (command : Command) (operands : List (List ℕ)) (settings : ProgramSettings) → HasProgram command operands settings
     → runs command settings ≡ true
 runs-from command operands (One settings) has = refl
 runs-from command operands (Chain first second) has = knows-named command (given (table operand.Program).name operands) program.Chain has.0
 runs-from command operands (Table settings) has = knows-named command (given (table operand.Program).name operands) program.Table has.0
-
-true-prop : (b : Bool) → IsProp (b ≡ true)
-true-prop b = hlevel (Bool-set)
-
-is_known : {a b : Command} {p q : ProgramSettings} (c : a ≡ b) (s : p ≡ q) (one : runs a p ≡ true) (other : runs b q ≡ true)
-    → PathP (λ i. runs (c i) (s i) ≡ true) one other
-is_known {b = b} {q = q} c s one other = to_path_p (λ i. runs (c i) (s i) ≡ true) (true-prop (runs b q) _ other)
 
 module _ (command : Command) (operands : List (List ℕ)) (values : HaveFaultlessValues command operands) where
   flows_inside : (1 ≤ number_for operand.Flows operands) × (number_for operand.Flows operands ≤ MOST_FLOWS)
@@ -373,7 +371,6 @@ module _ (command : Command) (operands : List (List ℕ)) (values : HaveFaultles
         start = number_for operand.Start operands;
         frames = number_for operand.Frames operands;
         hosts = number_for operand.Hosts operands;
-        known = runs-from command operands program has_program;
         few_frames = (number-inside command operands values operand.Frames refl refl).1;
         some_hosts = hosts.0;
         few_hosts = hosts.1;
@@ -426,7 +423,6 @@ RunSettings-same a b command program shape start frames hosts = λ i. record {
   start = start i;
   frames = frames i;
   hosts = hosts i;
-  known = is_known command program a.known b.known i;
   few_frames = at_most frames a.few_frames b.few_frames i;
   some_hosts = at_least hosts a.some_hosts b.some_hosts i;
   few_hosts = at_most hosts a.few_hosts b.few_hosts i;

@@ -13,7 +13,7 @@ use Rattle.scr_words.specs.declared.operand.Form.{Form}
 use Rattle.scr_words.specs.declared.operand.Form.TheVariants.{OneProgram, Number, DropList, RepeatList, DelayList, YesNo, ThreePorts, FirstProgram, SecondProgram, TableText}
 use Rattle.scr_words.specs.Operands.{table, is_numeric, IsWithin}
 use Rattle.scr_words.specs.WordParts.{given}
-use Rattle.scr_words.specs.WordFaults.{setting_fault, value_fault}
+use Rattle.scr_words.specs.WordFaults.{setting_fault, value_fault, number_fault}
 use Rattle.scr_words.specs.WordTests.{HaveFaultlessValues}
 use Rattle.scr_words.specs.GivenSettings.{value_for, number_for, history_for}
 use Rattle.scr_words.proofs.GivenValues.{value_for-passes}
@@ -46,6 +46,20 @@ value-inside command ThreePorts value numeric none = absurd cc
 value-inside command FirstProgram value numeric none = absurd cc
 value-inside command SecondProgram value numeric none = absurd cc
 value-inside command TableText value numeric none = absurd cc
+
+-- what the test of a value tells of it as a number
+pub number_fault-none : (command : Command) (form : Form) (value : List ℕ) → IsTrue (is_numeric form) → value_fault command form value ≡ None
+    → number_fault form value ≡ None
+number_fault-none command OneProgram value numeric none = absurd cc
+number_fault-none command (Number least greatest) value numeric none = none
+number_fault-none command DropList value numeric none = absurd cc
+number_fault-none command RepeatList value numeric none = absurd cc
+number_fault-none command DelayList value numeric none = absurd cc
+number_fault-none command YesNo value numeric none = absurd cc
+number_fault-none command ThreePorts value numeric none = absurd cc
+number_fault-none command FirstProgram value numeric none = absurd cc
+number_fault-none command SecondProgram value numeric none = absurd cc
+number_fault-none command TableText value numeric none = absurd cc
 
 module _ (command : Command) (operands : List (List ℕ)) (values : HaveFaultlessValues command operands) where
   pub number-inside : (operand : Operand) → IsTrue (is_numeric (table operand).form) → value_fault command (table operand).form (table operand).default ≡ None

@@ -59,6 +59,11 @@ same_fault before operand.First value = repeated before operand.Second value
 same_fault before operand.Second value = repeated before operand.First value
 same_fault before operand value = None
 
+-- the fault of a value that must be a number, which is the same beside each command
+abbrev pub number_fault : Form → List ℕ → Option WordCause
+number_fault (Number least greatest) value = setting_fault (setting_within value least greatest)
+number_fault _ value = Some cause.Value
+
 -- the fault of what an operand is given
 abbrev pub given_fault : Command → List (List ℕ) → Operand → List ℕ → Option WordCause
 given_fault command before operand value =

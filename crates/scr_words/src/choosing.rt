@@ -8,7 +8,7 @@ ghost use Rattle.scr_plan.specs.declared.delays.FrameDelay.{FrameDelay};
 ghost use Rattle.scr_program.specs.declared.table.TheConstants.{MOST_FLOWS};
 ghost use Rattle.scr_words.specs.Operands.{table, is_numeric, IsWithin};
 ghost use Rattle.scr_words.specs.WordParts.{program_in, chosen};
-ghost use Rattle.scr_words.specs.WordFaults.{value_fault};
+ghost use Rattle.scr_words.specs.WordFaults.{value_fault, number_fault};
 ghost use Rattle.scr_words.specs.WordTests.{HaveFaultlessValues, Chooses};
 ghost use Rattle.scr_words.specs.GivenSettings.{value_for, number_for, history_for, HasPorts, HasNumbers, name_of, HasProgram, HasLink, HasShape, AreChosen};
 
@@ -222,7 +222,7 @@ fn number(operand: Operand, tested: Tested<'_>) -> u64
 // The number that a tested value spells.
 fn spelled(operand: Operand, value: &[u8]) -> u64
     requires numeric { IsTrue (is_numeric (table operand).form) }
-    requires faultless { (command : Command) × (value_fault command (table operand).form value.now ≡ None) }
+    requires faultless { number_fault (table operand).form value.now ≡ None }
     ensures number { result ≡ number_of value.now }
     ensures within { IsWithin (table operand).form result }
 {

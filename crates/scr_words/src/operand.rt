@@ -157,12 +157,7 @@ impl Operand {
                 b"4096",
             ),
             Operand::Cores => line(b"cores", Taker::Spraying, number(1, MOST_CORES), b"1"),
-            Operand::History => line(
-                b"history",
-                Taker::Spraying,
-                number(0, LONGEST_HISTORY),
-                b"",
-            ),
+            Operand::History => line(b"history", Taker::Spraying, number(0, LONGEST_HISTORY), b""),
             Operand::Drop => line(b"drop", Taker::Spraying, Form::DropList, b""),
             Operand::Repeat => line(b"repeat", Taker::Spraying, Form::RepeatList, b""),
             Operand::Delay => line(b"delay", Taker::Spraying, Form::DelayList, b""),

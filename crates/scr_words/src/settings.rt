@@ -1,7 +1,6 @@
-ghost use Rattle.std.specs.Prelude.{◌≤◌, IsTrue};
+ghost use Rattle.std.specs.Prelude.{◌≤◌};
 ghost use Rattle.scr_plan.specs.Limits.{most_cores, longest_history};
 ghost use Rattle.scr_words.specs.Limits.{most_ring, most_frames, most_hosts};
-ghost use Rattle.scr_words.specs.Operands.{runs};
 
 use scr_bucket::BucketSettings;
 use scr_conn::ConnSettings;
@@ -92,7 +91,6 @@ pub struct RunSettings {
     pub frames: u32,
     /// How many hosts send in it, from 1 to 65,536.
     pub hosts: u32,
-    ghost known: { IsTrue (runs command program) },
     ghost few_frames: { frames ≤ most_frames },
     ghost some_hosts: { 1 ≤ hosts },
     ghost few_hosts: { hosts ≤ most_hosts },
