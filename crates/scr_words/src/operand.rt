@@ -235,20 +235,26 @@ impl Command {
     {
         match self {
             Command::Run | Command::Plain | Command::Load => true,
-            Command::Spray | Command::Replay => matches!(program, ProgramName::One(_)),
+            Command::Spray | Command::Replay => program.is_of_five(),
         }
     }
 
     fn sprays(self) -> bool
         ensures { result ≡ sprays self }
     {
-        matches!(self, Command::Run | Command::Load | Command::Spray)
+        match self {
+            Command::Run | Command::Load | Command::Spray => true,
+            Command::Plain | Command::Replay => false,
+        }
     }
 
     fn runs_cores(self) -> bool
         ensures { result ≡ runs_cores self }
     {
-        matches!(self, Command::Run | Command::Load | Command::Replay)
+        match self {
+            Command::Run | Command::Load | Command::Replay => true,
+            Command::Plain | Command::Spray => false,
+        }
     }
 }
 

@@ -1,6 +1,6 @@
 ghost use Rattle.std.specs.Prelude.{◌≡◌, true};
 ghost use Rattle.std.specs.Option.{option_map_or};
-ghost use Rattle.scr_words.specs.Operands.{one_name, one_named, program_name, program_named, is_in_chain, takes_those_of};
+ghost use Rattle.scr_words.specs.Operands.{one_name, one_named, program_name, program_named, is_of_five, is_in_chain, takes_those_of};
 
 use crate::settings::Command;
 
@@ -100,6 +100,16 @@ impl ProgramName {
             ProgramName::One(one) => one.name(),
             ProgramName::Chain => b"chain",
             ProgramName::Table => b"table",
+        }
+    }
+
+    /// Whether it is one of the five.
+    pub(crate) fn is_of_five(self) -> bool
+        ensures { result ≡ is_of_five self }
+    {
+        match self {
+            ProgramName::One(_) => true,
+            ProgramName::Chain | ProgramName::Table => false,
         }
     }
 }
