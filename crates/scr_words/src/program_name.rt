@@ -1,6 +1,7 @@
-ghost use Rattle.std.specs.Prelude.{◌≡◌, true};
+ghost use Rattle.std.specs.Prelude.{◌≡◌, ◌&&◌, true};
+ghost use Rattle.std.specs.Str.{bytes_eq};
 ghost use Rattle.std.specs.Option.{option_map_or};
-ghost use Rattle.scr_words.specs.Operands.{one_name, one_named, program_name, program_named, is_of_five, is_in_chain, takes_those_of};
+ghost use Rattle.scr_words.specs.Operands.{one_name, one_named, program_name, program_named, knows, is_of_five, is_in_chain, takes_those_of};
 
 use crate::settings::Command;
 
@@ -89,7 +90,7 @@ impl ProgramName {
     {
         PROGRAMS
             .iter()
-            .find(|program| command.knows(**program) && program.name() == name)
+            .find(|program| program.is_known_as(command, name))
             .copied()
     }
 
@@ -101,6 +102,13 @@ impl ProgramName {
             ProgramName::Chain => b"chain",
             ProgramName::Table => b"table",
         }
+    }
+
+    // Whether a command knows it by this name.
+    fn is_known_as(self, command: Command, name: &[u8]) -> bool
+        ensures { result ≡ (knows command self && bytes_eq (program_name self) name.now) }
+    {
+        command.knows(self) && self.name() == name
     }
 
     /// Whether it is one of the five.
