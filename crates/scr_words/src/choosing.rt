@@ -39,8 +39,8 @@ pub(crate) fn settings(
     tested: Tested<'_>,
 ) -> Result<Option<RunSettings>, OutOfMemory>
     requires values { HaveFaultlessValues tested.command tested.operands.now }
-    ensures { IfOk result (Chooses tested.command tested.operands.now (λ settings.
-        (settings.command ≡ tested.command) × AreChosen tested.operands.now settings)) }
+    ensures { IfOk result (Chooses tested.entry.command tested.entry.operands.now (λ settings.
+        (settings.command ≡ tested.entry.command) × AreChosen tested.entry.operands.now settings)) }
 {
     let Some(program) = program_settings(alloc, tested)? else {
         return Ok(None);
@@ -60,7 +60,7 @@ fn program_settings(
     tested: Tested<'_>,
 ) -> Result<Option<ProgramSettings>, OutOfMemory>
     requires values { HaveFaultlessValues tested.command tested.operands.now }
-    ensures { IfOk result (Chooses tested.command tested.operands.now (HasProgram tested.command tested.operands.now)) }
+    ensures { IfOk result (Chooses tested.entry.command tested.entry.operands.now (HasProgram tested.entry.command tested.entry.operands.now)) }
 {
     let choice = chosen(tested.command, tested.operands);
     match choice.program {
@@ -75,7 +75,7 @@ fn chain_settings(choice: Choice, tested: Tested<'_>) -> Option<ProgramSettings>
     requires values { HaveFaultlessValues tested.command tested.operands.now }
     requires choice { choice ≡ chosen tested.command tested.operands.now }
     requires program { choice.program ≡ Some ProgramName.Chain }
-    ensures { Chooses tested.command tested.operands.now (HasProgram tested.command tested.operands.now) result }
+    ensures { Chooses tested.entry.command tested.entry.operands.now (HasProgram tested.entry.command tested.entry.operands.now) result }
 {
     let first = one_settings(choice.first?, tested);
     let second = one_settings(choice.second?, tested);
@@ -85,7 +85,7 @@ fn chain_settings(choice: Choice, tested: Tested<'_>) -> Option<ProgramSettings>
 fn table_settings(alloc: Global, tested: Tested<'_>) -> Result<Option<ProgramSettings>, OutOfMemory>
     requires values { HaveFaultlessValues tested.command tested.operands.now }
     requires program { program_in tested.command tested.operands.now ≡ Some ProgramName.Table }
-    ensures { IfOk result (Chooses tested.command tested.operands.now (HasProgram tested.command tested.operands.now)) }
+    ensures { IfOk result (Chooses tested.entry.command tested.entry.operands.now (HasProgram tested.entry.command tested.entry.operands.now)) }
 {
     let Some(text) = given(Operand::Table.line().name, tested.operands) else {
         return Ok(None);
@@ -101,7 +101,7 @@ fn table_settings(alloc: Global, tested: Tested<'_>) -> Result<Option<ProgramSet
 fn one_settings(name: OneName, tested: Tested<'_>) -> OneSettings
     requires values { HaveFaultlessValues tested.command tested.operands.now }
     ensures name { name_of result ≡ name }
-    ensures numbers { HasNumbers tested.operands.now result }
+    ensures numbers { HasNumbers tested.entry.operands.now result }
 {
     let flows = number(Operand::Flows, tested) as u32;
     match name {
@@ -130,7 +130,7 @@ fn knock_settings(flows: u32, tested: Tested<'_>) -> KnockSettings
     requires some { 1 ≤ flows }
     requires few { flows ≤ MOST_FLOWS }
     requires values { HaveFaultlessValues tested.command tested.operands.now }
-    ensures ports { HasPorts (value_for Operand.Ports tested.operands.now) result }
+    ensures ports { HasPorts (value_for Operand.Ports tested.entry.operands.now) result }
     ensures flows { result.flows ≡ flows }
 {
     let mut settings = KnockSettings::new(flows);
@@ -141,7 +141,7 @@ fn knock_settings(flows: u32, tested: Tested<'_>) -> KnockSettings
 
 fn shape(alloc: Global, tested: Tested<'_>) -> Result<Shape, OutOfMemory>
     requires values { HaveFaultlessValues tested.command tested.operands.now }
-    ensures { IfOk result (HasShape tested.operands.now) }
+    ensures { IfOk result (HasShape tested.entry.operands.now) }
 {
     let cores = number(Operand::Cores, tested) as u32;
     Ok(Shape {
@@ -158,7 +158,7 @@ fn history(cores: u32, tested: Tested<'_>) -> u32
     requires some { 1 ≤ cores }
     requires few { cores ≤ most_cores }
     requires values { HaveFaultlessValues tested.command tested.operands.now }
-    ensures history { result ≡ history_for tested.operands.now }
+    ensures history { result ≡ history_for tested.entry.operands.now }
     ensures short { result ≤ longest_history }
 {
     match given(Operand::History.line().name, tested.operands) {
@@ -169,7 +169,7 @@ fn history(cores: u32, tested: Tested<'_>) -> u32
 
 fn link(alloc: Global, tested: Tested<'_>) -> Result<Link, OutOfMemory>
     requires values { HaveFaultlessValues tested.command tested.operands.now }
-    ensures { IfOk result (HasLink tested.operands.now) }
+    ensures { IfOk result (HasLink tested.entry.operands.now) }
 {
     let drops = ranges(alloc, value(Operand::Drop, tested))?;
     let repeats = ranges(alloc, value(Operand::Repeat, tested))?;
@@ -203,7 +203,7 @@ fn delays(alloc: Global, text: &[u8]) -> Result<Delays, OutOfMemory>
 
 // The value that the words give an operand, or its default.
 fn value<'a>(operand: Operand, tested: Tested<'a>) -> &'a [u8]
-    ensures { result.now ≡ value_for operand tested.operands.now }
+    ensures { result.now ≡ value_for operand tested.entry.operands.now }
 {
     let line = operand.line();
     given(line.name, tested.operands).unwrap_or(line.default)
@@ -213,7 +213,7 @@ fn number(operand: Operand, tested: Tested<'_>) -> u64
     requires numeric { IsTrue (is_numeric (table operand).form) }
     requires default { value_fault tested.command (table operand).form (table operand).default ≡ None }
     requires values { HaveFaultlessValues tested.command tested.operands.now }
-    ensures number { result ≡ number_for operand tested.operands.now }
+    ensures number { result ≡ number_for operand tested.entry.operands.now }
     ensures within { IsWithin (table operand).form result }
 {
     spelled(operand, value(operand, tested))

@@ -6,7 +6,7 @@ use Rattle.std.proofs.lemmas.Iterator.{YieldsList-from_slice}
 use Rattle.std.proofs.lemmas.Iterator.Search.{find_from_yields_List}
 use Rattle.scr_words.specs.declared.settings.Command.{Command}
 use Rattle.scr_words.specs.Operands.{command_named, command_name, all_commands}
-use Rattle.scr_words.proofs.operand.Command.named.Goals as goal
+use Rattle.scr_words.proofs.settings.Command.named.Goals as goal
 
 pub returns : goal.returns
 unfolding command_named
