@@ -1,3 +1,4 @@
 mod Coming
 mod Answered
 mod NewEnds
+mod Courses

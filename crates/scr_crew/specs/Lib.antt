@@ -1,4 +1,6 @@
 pub mod Cores
 pub mod Workers
 pub mod Answers
+pub mod Verdicts
+pub mod Streamed
 pub mod Threads

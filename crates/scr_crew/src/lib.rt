@@ -23,14 +23,23 @@
 //! memory of such a run beside what the threads took.
 #![tactic(auto)]
 
+mod core_out;
 mod feeding;
 mod joining;
+mod lines;
 mod open_gate;
+mod run_stop;
+mod streamed;
 #[cfg(test)]
 mod tests;
 mod threads;
+mod verdict_lane;
 mod work;
 mod workers;
 
+pub use core_out::{CoreTotals, run_core_out};
 pub use open_gate::OpenGate;
+pub use run_stop::RunStop;
+pub use streamed::run_streamed;
 pub use threads::run_threads;
+pub use verdict_lane::{CourseOf, VerdictLane, VerdictReceive, VerdictSend};

@@ -16,6 +16,7 @@ use std::thread::Threads;
 
 mod meeting;
 mod refusing;
+mod streaming;
 
 use meeting::Meeting;
 use refusing::without_the_last;
