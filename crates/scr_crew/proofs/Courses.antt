@@ -1,6 +1,6 @@
 -- The course of a core, verdict by verdict.
-use Rattle.std.proofs.Common.{inl, inr, ◌≡◌, ℕ, suc, ◌+◌, ◌≤◌, List, [], ◌∷◌, ◌++◌, length, Option, Some, None, refl, sym, ap, ◌∙◌, subst, arith, append_assoc}
-use Rattle.std.specs.Prelude.{filter_map}
+use Rattle.std.proofs.Common.{inl, inr, ◌≡◌, ℕ, suc, ◌+◌, ◌≤◌, Bool, List, [], ◌∷◌, ◌++◌, length, Option, Some, None, Result, Ok, Err, refl, sym, ap, ◌∙◌, subst, arith, append_assoc}
+use Rattle.std.specs.Prelude.{filter_map, is_ok, OnOk, OnErr, if◌then◌else◌}
 use Rattle.std.specs.List.{range_with_len, cons_option, slice_get}
 use Rattle.std.proofs.lemmas.List.{length-append, append-nil}
 use Rattle.std.proofs.lemmas.List.FromFn.{length-range_with_len}
@@ -8,7 +8,7 @@ use Rattle.scr_base.specs.declared.row.Row.{Row}
 use Rattle.scr_base.specs.declared.row.Verdict.{Verdict}
 use Rattle.scr_plan.specs.declared.given.Given.{Given}
 use Rattle.scr_plan.specs.Plan.{Plan, frame_count}
-use Rattle.scr_lane.specs.Ends.{End, HasLooked, moved}
+use Rattle.scr_lane.specs.Ends.{End, FoundNoRoom, HasLooked, moved}
 use Rattle.scr_replica.specs.OneCore.{given_to, course, course_up_to}
 use Rattle.scr_crew.specs.Verdicts.{StandsIn, HasMoved, IsToGet}
 
@@ -75,3 +75,14 @@ module _ (end : End (List Given)) (whole rest : List Given) where
 -- one that is to get nothing more has sent the whole course
 pub all-sent : (end : End (List Given)) (whole : List Given) → IsToGet end whole [] → end.count ≡ length whole
 all-sent end whole is = is.count ∙ ap length (sym (append-nil is.front) ∙ sym is.parts)
+
+-- what an end that was given a verdict is to get then, whether it took it or not
+pub offered : (end new : End (List Given)) (whole rest : List Given) (given : Given) (result : Result (Unit {0}) Given) (taken : Bool)
+    → taken ≡ is_ok result → OnOk result (HasMoved end new) → OnErr result (FoundNoRoom end new)
+    → IsToGet end whole (given ∷ rest) → IsToGet new whole (if taken then rest else given ∷ rest)
+offered end new whole rest given (Ok x) taken said moves stays is =
+    subst (λ (b : Bool). IsToGet new whole (if b then rest else given ∷ rest)) (sym said) (gets-on end whole rest given new is moves)
+offered end new whole rest given (Err x) taken said moves stays is =
+    let found = stays.1 in
+    subst (λ (b : Bool). IsToGet new whole (if b then rest else given ∷ rest)) (sym said)
+    (gets-same end whole (given ∷ rest) new (ap (λ (e : End (List Given)). e.about) found) (ap (λ (e : End (List Given)). e.count) found) is)

@@ -4,6 +4,7 @@ ghost use Rattle.scr_replica.specs.Replicas.{Begin};
 ghost use Rattle.scr_replica.specs.Stops.{StopTells};
 ghost use Rattle.scr_plan.specs.Counts.{plan_counts};
 
+use crate::returning::Returning;
 use crate::verdict_lane::VerdictSend;
 use scr_lane::ReceiveEnd;
 use scr_log::{CorePass, Logs};
@@ -24,6 +25,40 @@ pub struct CoreTotals<P: Program> {
     pub flows: u64,
     /// The end of its verdict lane, by which all its verdicts went.
     pub verdicts: VerdictSend<P>,
+}
+
+/// As [`run_core_out`], with a way home for the packets that the core needs no more.
+pub fn run_core_home<P: Program, G: Gate, R: Wait>(
+    rt: &R,
+    alloc: Global,
+    settings: &P::Settings,
+    lane: ReceiveEnd,
+    pass: CorePass,
+    logs: &Logs,
+    gate: &G,
+    out: Returning<VerdictSend<P>>,
+) -> Result<CoreTotals<P>, CoreStop>
+    requires of_these { pass.logs ≡ logs.now }
+    requires begin { Begin lane pass }
+    requires course { out.outlet.about ≡ course (P.verdict_after settings.now) logs.now.plan pass.core }
+    requires unsent { out.outlet.count ≡ 0 }
+    ensures core { IfOk result (λ it. it.core ≡ pass.core) }
+    ensures counts { IfOk result (λ it. it.counts ≡ plan_counts logs.now.plan pass.core) }
+    ensures flows { IfOk result (λ it. it.flows ≡ entries (P.count_after settings.now) logs.now.plan) }
+    ensures same_course { IfOk result (λ it. it.verdicts.about ≡ out.outlet.about) }
+    ensures all_sent { IfOk result (λ it. it.verdicts.count ≡ length out.outlet.about) }
+    ensures stop { IfErr result (StopTells pass) }
+{
+    let mut out = out;
+    let tally = run_core_into::<P, G, Returning<VerdictSend<P>>, R>(
+        rt, alloc, settings, lane, pass, logs, gate, &mut out,
+    )?;
+    Ok(CoreTotals {
+        core: tally.core,
+        counts: tally.counts,
+        flows: tally.flows,
+        verdicts: out.outlet,
+    })
 }
 
 /// A core in the calling thread, from its begin to its end, which sends its verdicts by a lane as it gives them. Where the lane
@@ -49,14 +84,6 @@ pub fn run_core_out<P: Program, G: Gate, R: Wait>(
     ensures all_sent { IfOk result (λ it. it.verdicts.count ≡ length verdicts.about) }
     ensures stop { IfErr result (StopTells pass) }
 {
-    let mut verdicts = verdicts;
-    let tally = run_core_into::<P, G, VerdictSend<P>, R>(
-        rt, alloc, settings, lane, pass, logs, gate, &mut verdicts,
-    )?;
-    Ok(CoreTotals {
-        core: tally.core,
-        counts: tally.counts,
-        flows: tally.flows,
-        verdicts,
-    })
+    let out = Returning::nowhere(verdicts);
+    run_core_home::<P, G, R>(rt, alloc, settings, lane, pass, logs, gate, out)
 }

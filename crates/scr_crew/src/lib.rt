@@ -28,6 +28,7 @@ mod feeding;
 mod joining;
 mod lines;
 mod open_gate;
+mod returning;
 mod run_stop;
 mod streamed;
 #[cfg(test)]

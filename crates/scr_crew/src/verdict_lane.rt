@@ -9,6 +9,7 @@ use scr_lane::{Course, Receiver, Sender, make_ends};
 use scr_plan::{Given, RunPlan};
 use scr_program::Program;
 use scr_replica::Outlet;
+use scr_wire::Packet;
 use std::alloc::Global;
 use std::marker::{Model, PhantomData};
 use std::snapshot::Snapshot;
@@ -119,10 +120,30 @@ impl VerdictLane {
         ensures receive { IfOk result (λ ends. ends.1 ≡ begun ends.1.lane (course (P.verdict_after settings.now) plan.now core) capacity) }
     {
         let about = CourseOf::<P>::of(settings, plan, core);
-        let (send, receive) =
-            make_ends::<Given, CourseOf<P>, Verdicts<P>>(alloc, &about, capacity)?;
+        let (send, receive) = make_ends::<Given, CourseOf<P>, Verdicts<P>>(
+            alloc, &about, capacity,
+        )?;
         Ok((VerdictSend { end: send }, VerdictReceive { end: receive }))
     }
+}
+
+// Sends the item that comes next, or gives it back where the lane has no room. It names no program, so that a method of a
+// trait may call it too.
+fn offer<A, C: Course<Given, A>, R: Wait>(
+    rt: &R,
+    end: &mut Sender<Given, A, C>,
+    given: Given,
+) -> Result<(), Given>
+    requires { C.fits end.old.about end.old.count given }
+    ensures sent { OnOk result (HasMoved end.old end.new) }
+    ensures back { IfErr result (λ back. back ≡ given) }
+    ensures full { OnErr result (FoundNoRoom end.old end.new) }
+{
+    if !end.has_room() {
+        return Err(given);
+    }
+    end.push(rt, given);
+    Ok(())
 }
 
 impl<P: Program> VerdictSend<P> {
@@ -137,11 +158,7 @@ impl<P: Program> VerdictSend<P> {
         ensures back { IfErr result (λ back. back ≡ given) }
         ensures full { OnErr result (FoundNoRoom self.old self.new) }
     {
-        if !self.end.has_room() {
-            return Err(given);
-        }
-        self.end.push(rt, given);
-        Ok(())
+        offer(rt, &mut self.end, given)
     }
 }
 
@@ -167,6 +184,10 @@ impl<P: Program> Outlet for VerdictSend<P> {
     ghost Awaits = { IsToGet };
 
     fn give<R: Wait>(&mut self, rt: &R, given: Given) -> Result<bool, OutOfMemory> {
-        Ok(self.push(rt, given).is_ok())
+        Ok(offer(rt, &mut self.end, given).is_ok())
+    }
+
+    fn take_back(&mut self, spent: Packet) {
+        drop(spent);
     }
 }
