@@ -1,18 +1,13 @@
 -- What leaves while a run goes on: a line for each delivered frame, in the order of the frames.
-use Rattle.std.specs.Prelude.{◌≡◌, ◌⊎◌, ℕ, ◌-◌, ◌<◌, List, [], map, length, slice_index_or, Option, Result, Err, OnOk, MatchResult}
-use Rattle.std.specs.List.{concat, filter_map, range_with_len}
+use Rattle.std.specs.Prelude.{◌≡◌, ◌≢◌, ◌⊎◌, ℕ, List, map, Option, Result, Err, OnOk, MatchResult}
+use Rattle.std.specs.List.{concat}
 use Rattle.std.specs.Io.KnownBytes.{Appends}
 use Rattle.scr_base.specs.Causes.{counted}
-use Rattle.scr_base.specs.Streams.{AppendsPrefix, Passes}
+use Rattle.scr_base.specs.Streams.{AppendsPrefix}
 use Rattle.scr_base.specs.declared.out_of_memory.OutOfMemory as memory
-use Rattle.scr_base.specs.declared.row.Row.{Row}
-use Rattle.scr_base.specs.declared.row.Verdict.{Verdict}
 use Rattle.scr_base.specs.declared.sink.SinkError.{SinkError}
 use Rattle.scr_base.specs.declared.sink.SinkError.TheVariants as sink
 use Rattle.scr_plan.specs.declared.given.Given.{Given}
-use Rattle.scr_plan.specs.Plan.{Plan}
-use Rattle.scr_replica.specs.OneCore.{given_at, course, course_up_to}
-use Rattle.scr_lane.specs.Ends.{End}
 use Rattle.scr_report.specs.Text.{verdict_line}
 use Rattle.scr_crew.specs.declared.run_stop.RunStop.{RunStop}
 use Rattle.scr_crew.specs.declared.run_stop.RunStop.TheVariants.{WriteFault, OutOfMemory}
@@ -26,6 +21,10 @@ abbrev pub stop_of_sink : SinkError → RunStop
 stop_of_sink sink.Failed = WriteFault
 stop_of_sink (sink.OutOfMemory want) = OutOfMemory want
 
+-- want of memory is no failed write
+pub no-fault : (want : memory.OutOfMemory) → OutOfMemory want ≢ WriteFault
+no-fault want e = absurd cc
+
 -- the text is written whole, or a front of it, maybe all
 abbrev pub StreamsText : {T : Type 0} → Option (List ℕ) → Option (List ℕ) → Result T RunStop → List ℕ → Type 0
 StreamsText before now result text = MatchResult result (λ _. Appends before now text) (λ _. AppendsPrefix before now text)
@@ -36,16 +35,3 @@ pub record CountsStop {O T : Type 0} (faults wants : O → ℕ) (old new : O) (r
   pub write_fault : result ≡ Err WriteFault → (faults new ≡ counted (faults old)) × (wants new ≡ wants old)
   pub out_of_memory : (want : memory.OutOfMemory) → result ≡ Err (OutOfMemory want)
       → (faults new ≡ faults old) × ((wants new ≡ wants old) ⊎ (wants new ≡ counted (wants old)))
-
--- the verdicts up to before frame n were taken, and their lines went through a batch, which holds what isn't written yet
-pub record IsWritten (names : List (List ℕ)) (verdict_after : List Row → Row → Verdict) (plan : Plan) (before now : Option (List ℕ))
-    (n : ℕ) (given : List Given) (batch : List ℕ) : Type 0 where
-  pub so_far : given ≡ filter_map (given_at verdict_after plan) (range_with_len 1 (n - 1))
-  pub lines : Passes before now [] batch (lines_of names given)
-
--- the receiving ends of the verdict lanes of all cores, of which the verdicts up to before frame n were taken
-pub record AreTaken (verdict_after : List Row → Row → Verdict) (plan : Plan) (n : ℕ) (ends : List (End (List Given))) : Type 0 where
-  pub all : length ends ≡ plan.cores
-  pub about : (core : ℕ) (d : End (List Given)) → core < plan.cores → (slice_index_or ends core d).about ≡ course verdict_after plan core
-  pub count : (core : ℕ) (d : End (List Given)) → core < plan.cores
-      → (slice_index_or ends core d).count ≡ length (course_up_to verdict_after plan core (n - 1))

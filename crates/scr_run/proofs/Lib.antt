@@ -5,3 +5,4 @@ pub mod Written
 pub mod Loading
 pub mod ByCommand
 pub mod Main
+mod Leaving

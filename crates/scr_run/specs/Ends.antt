@@ -9,6 +9,8 @@ use Rattle.scr_base.specs.declared.sink.SinkError.{SinkError}
 use Rattle.scr_base.specs.declared.sink.SinkError.TheVariants as sink
 use Rattle.scr_pcapng.specs.Reading.{IsReading}
 use Rattle.scr_pcapng.specs.declared.error.AnyError.{AnyError}
+use Rattle.scr_crew.specs.declared.run_stop.RunStop.{RunStop}
+use Rattle.scr_crew.specs.declared.run_stop.RunStop.TheVariants as stops
 use Rattle.scr_words.specs.declared.reading.WordsError.{WordsError}
 use Rattle.scr_words.specs.declared.reading.WordsError.TheVariants as words
 use Rattle.scr_run.specs.declared.status.Status.{Status}
@@ -19,6 +21,11 @@ use Rattle.scr_run.specs.Asked.{status_of}
 abbrev pub status_of_sink : SinkError → Status
 status_of_sink sink.Failed = WriteFault
 status_of_sink (sink.OutOfMemory want) = OutOfMemory want
+
+-- the status of a run that stopped while its verdicts were leaving
+abbrev pub status_of_stop : RunStop → Status
+status_of_stop stops.WriteFault = WriteFault
+status_of_stop (stops.OutOfMemory want) = OutOfMemory want
 
 -- the status of words that aren't accepted
 abbrev pub status_of_words : WordsError → Status

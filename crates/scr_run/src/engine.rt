@@ -21,6 +21,7 @@ use crate::found::write_found;
 use crate::host::Host;
 use crate::names::names_of;
 use crate::status::Status;
+use crate::streaming::write_streamed;
 use scr_base::{OutOfMemory, Row, Sink, Source};
 use scr_crew::run_threads;
 use scr_frame::parse;
@@ -116,6 +117,9 @@ pub(crate) fn run_cores<P: Program, S: Source, O: Sink, G: Gate + Sync, R: Threa
         threads,
     } = shape;
     let plan = RunPlan::make(rows, cores, history, link);
+    if threads && with_verdicts {
+        return write_streamed::<P, O, G, R>(host, settings, &plan, ring, out);
+    }
     let gathered = gathered_by::<P, G, R>(host, settings, &plan, ring, threads)?;
     let report = report_on::<P>(alloc, &plan, gathered)?;
     write_found::<P, O>(alloc, &report, with_verdicts, out)
@@ -171,7 +175,7 @@ fn report_on<P: Program>(
 }
 
 // How many packets are kept: all but those that a core skipped.
-fn kept_of(plan: &RunPlan, cores: &[CoreCounts]) -> u32
+pub(crate) fn kept_of(plan: &RunPlan, cores: &[CoreCounts]) -> u32
     requires cores { cores.now ≡ map (plan_counts plan.now) (range_with_len 0 plan.now.cores) }
     ensures { result ≡ kept_count plan.now }
 {

@@ -36,6 +36,7 @@ mod laws;
 mod names;
 mod plain;
 mod status;
+mod streaming;
 mod task;
 #[cfg(test)]
 mod tests;

@@ -3,6 +3,7 @@ ghost use Rattle.scr_run.specs.Ends.{ended};
 ghost use Rattle.scr_run.specs.FaultLines.{code_of};
 
 use scr_base::{OutOfMemory, SinkError};
+use scr_crew::RunStop;
 use scr_pcap::CaptureError;
 use scr_pcapng::{AnyError, NgError};
 use scr_words::{WordFault, WordsError};
@@ -125,6 +126,20 @@ impl From<SinkError> for Status {
         match error {
             SinkError::Failed => Status::WriteFault,
             SinkError::OutOfMemory(want) => Status::OutOfMemory(want),
+        }
+    }
+}
+
+impl From<RunStop> for Status {
+    ghost use Rattle.std.specs.Prelude.{◌≡◌};
+    ghost use Rattle.scr_run.specs.Ends.{status_of_stop};
+
+    ghost from_gives = { λ stop status. status ≡ status_of_stop stop };
+
+    fn from(stop: RunStop) -> Self {
+        match stop {
+            RunStop::WriteFault => Status::WriteFault,
+            RunStop::OutOfMemory(want) => Status::OutOfMemory(want),
         }
     }
 }

@@ -2,13 +2,13 @@
 ghost use Rattle.std.specs.Prelude.{◌≤◌};
 ghost use Rattle.scr_log.specs.Layout.{most_slots};
 
-use super::{CASES, Case, assert_same, plan_of, settings};
-use crate::{OpenGate, RunStop, run_streamed};
+use super::{CASES, Case, FOUR, plan_of, settings};
+use crate::{OpenGate, RunStop, Streamed, run_streamed};
 use scr_base::{MemSink, SureSink};
 use scr_ddos::Ddos;
 use scr_plan::Given;
 use scr_program::Program;
-use scr_replica::run_phases;
+use scr_replica::{Gathered, run_phases};
 use scr_report::write_line;
 use std::alloc::Global;
 use std::process::Abort;
@@ -26,8 +26,28 @@ fn lines_of(alloc: Global, verdicts: &[Given]) -> Result<SureSink, Fail> {
     Ok(lines)
 }
 
-/// Runs a case with its lines, and compares with the run by phases.
-pub fn assert_lines<R: Threads + Wait + Abort + Sync>(
+// A run beside the run by phases.
+fn assert_found(
+    rt: &impl Abort,
+    alloc: Global,
+    streamed: &Streamed,
+    by_phases: &Gathered,
+) -> Result<(), Fail> {
+    assert_eq!(rt; streamed.delivered as usize, by_phases.verdicts.len());
+    assert_eq!(rt; streamed.cores.as_slice(), by_phases.cores.as_slice());
+    assert_eq!(rt; streamed.flows, by_phases.flows);
+    let mut totals = vec![in alloc; 0u64; streamed.totals.len()]?;
+    for given in &by_phases.verdicts {
+        if let Some(total) = totals.get_mut(usize::from(given.verdict.0)) {
+            *total = total.saturating_add(1);
+        }
+    }
+    assert_eq!(rt; streamed.totals.as_slice(), totals.as_slice());
+    Ok(())
+}
+
+// Runs a case with its lines, and compares with the run by phases.
+fn assert_lines<R: Threads + Wait + Abort + Sync>(
     rt: &R,
     alloc: Global,
     case: &Case,
@@ -44,10 +64,13 @@ pub fn assert_lines<R: Threads + Wait + Abort + Sync>(
         rt, alloc, &settings, &plan, ring, &OpenGate, &mut out,
     );
     match streamed {
-        Ok(gathered) => assert_same(rt, &gathered, &by_phases),
+        Ok(streamed) => assert_found(rt, alloc, &streamed, &by_phases)?,
         Err(_) => return Err("a run".into()),
     }
-    assert_eq!(rt; out.written(), lines_of(alloc, &by_phases.verdicts)?.written());
+    assert_eq!(rt;
+        out.written(),
+        lines_of(alloc, &by_phases.verdicts)?.written()
+    );
     Ok(())
 }
 
@@ -60,18 +83,53 @@ fn lines_come_in_the_order_of_the_frames(rt: HostRuntime) -> Result<(), Fail> {
     Ok(())
 }
 
-#[test]
-fn a_failed_write_stops_the_run(rt: HostRuntime) -> Result<(), Fail> {
-    let plan = plan_of(rt.alloc(), &CASES[0])?;
-    let failing = vec![in rt.alloc(); 1u64; 1]?;
-    let mut out = MemSink::new(rt.alloc(), 7, failing);
-    let streamed = run_streamed::<Ddos, OpenGate, MemSink, _>(
-        &rt, rt.alloc(), &settings(), &plan, 1, &OpenGate, &mut out,
+// Runs a case over a sink whose call of this number fails. True where the run was done before that call.
+fn assert_stops<R: Threads + Wait + Abort + Sync>(
+    rt: &R,
+    alloc: Global,
+    case: &Case,
+    limit: usize,
+    failing: u64,
+) -> Result<bool, Fail>
+    requires { 1 ≤ limit }
+{
+    let plan = plan_of(alloc, case)?;
+    let settings = settings();
+    let by_phases = run_phases::<Ddos>(alloc, &settings, &plan)?;
+    let lines = lines_of(alloc, &by_phases.verdicts)?;
+    let mut out = MemSink::new(alloc, limit, vec![in alloc; failing; 1]?);
+    let streamed = run_streamed::<Ddos, OpenGate, MemSink, R>(
+        rt, alloc, &settings, &plan, 1, &OpenGate, &mut out,
     );
     match streamed {
-        Ok(_) => assert!(rt; false, "the write failed"),
-        Err(stop) => assert_eq!(rt; stop, RunStop::WriteFault),
+        Ok(_) => {
+            assert_eq!(rt; out.written(), lines.written());
+            Ok(true)
+        }
+        Err(stop) => {
+            assert_eq!(rt; stop, RunStop::WriteFault);
+            assert!(rt; lines.written().starts_with(out.written()));
+            assert!(rt; out.written().len() < lines.written().len());
+            Ok(false)
+        }
     }
-    assert_eq!(rt; out.written(), b"");
+}
+
+#[test]
+fn a_failed_write_stops_the_run(rt: HostRuntime) -> Result<(), Fail> {
+    let _long = Case {
+        frames: 20_000,
+        ..FOUR
+    };
+    for (case, limit) in [(FOUR, 7)] {
+        let mut failing = 1;
+        while failing < 100 && !assert_stops(&rt, rt.alloc(), &case, limit, failing)? {
+            failing += 1;
+        }
+        assert!(rt;
+            failing > 2 && failing < 100,
+            "a run without a fault is done"
+        );
+    }
     Ok(())
 }
