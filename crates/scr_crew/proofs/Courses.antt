@@ -9,7 +9,7 @@ use Rattle.scr_base.specs.declared.row.Verdict.{Verdict}
 use Rattle.scr_plan.specs.declared.given.Given.{Given}
 use Rattle.scr_plan.specs.Plan.{Plan, frame_count}
 use Rattle.scr_lane.specs.Ends.{End, FoundNoRoom, HasLooked, moved}
-use Rattle.scr_replica.specs.OneCore.{given_to, course, course_up_to}
+use Rattle.scr_replica.specs.OneCore.{given_at, given_to, course, course_up_to, verdicts}
 use Rattle.scr_crew.specs.Verdicts.{StandsIn, HasMoved, IsToGet}
 
 length-cons : {Y : Type 0} (o : Option Y) (ys : List Y) → length (cons_option o ys) ≤ length ys + 1
@@ -28,6 +28,12 @@ pub few_verdicts : (verdict_after : List Row → Row → Verdict) (plan : Plan) 
 unfolding course_up_to
 few_verdicts verdict_after plan core =
     omega (arith, length-filter_map (given_to verdict_after plan core) (range_with_len 1 (frame_count plan)), length-range_with_len 1 (frame_count plan))
+
+-- so have all cores together
+pub few_verdicts-all : (verdict_after : List Row → Row → Verdict) (plan : Plan) → length (verdicts verdict_after plan) ≤ frame_count plan
+unfolding verdicts
+few_verdicts-all verdict_after plan =
+    omega (arith, length-filter_map (given_at verdict_after plan) (range_with_len 1 (frame_count plan)), length-range_with_len 1 (frame_count plan))
 
 get-seam : (front rest : List Given) (given : Given) → slice_get (front ++ given ∷ rest) (length front) ≡ Some given
 get-seam [] rest given = refl

@@ -5,3 +5,8 @@ mod Courses
 mod TakenOnce
 mod Totals
 mod Writing
+mod Turns
+mod Handing
+mod Streaming
+mod Named
+mod NewArrivals

@@ -53,15 +53,21 @@ none-taken old new found =
     ap (λ (x : End (List Given)). drop x.count x.about) found.1.0
 
 module _ (verdict_after : List Row → Row → Verdict) (plan : Plan) where
+  frames-from-1 : frame_count plan + 1 - 1 ≡ frame_count plan
+  frames-from-1 = omega arith
+
   -- of a new end the whole course is to come
   pub all-to_come : (core : ℕ) (end : End (List Given)) → IsNewVerdictEnd verdict_after plan core end → still_to_come end None ≡ course_from verdict_after plan core 1
   unfolding course_from course_up_to
-  all-to_come core end new = ap (λ (n : ℕ). drop n end.about) new.unmoved ∙ new.about
+  all-to_come core end new =
+      ap (λ (n : ℕ). drop n end.about) new.unmoved
+      ∙ new.about
+      ∙ ap (λ (k : ℕ). filter_map (given_to verdict_after plan core) (range_with_len 1 k)) (sym frames-from-1)
 
   -- from frame 1 on it is all verdicts
   pub verdicts-from-1 : verdicts_from verdict_after plan 1 ≡ verdicts verdict_after plan
   unfolding verdicts_from verdicts
-  verdicts-from-1 = refl
+  verdicts-from-1 = ap (λ (k : ℕ). filter_map (given_at verdict_after plan) (range_with_len 1 k)) frames-from-1
 
   -- behind the last frame there is none
   pub verdicts-from-end : (n : ℕ) → frame_count plan < n → verdicts_from verdict_after plan n ≡ []

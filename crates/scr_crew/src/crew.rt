@@ -43,7 +43,7 @@ fn take_all<P: Program, T: Taker<O>, O, R: Wait>(
     requires logs { caller.old.free.logs ≡ logs.now }
     requires taking { (verdict_after : List Row → Row → Verdict) × (before : O) × IsTaking T.IsToTake verdict_after plan.now before out.old caller.old.taking taker.old }
     ensures logs { caller.new.free.logs ≡ logs.now }
-    ensures started { IfOk result (λ through. through ≡ true → started ≡ plan.now.cores) }
+    ensures started { IfOk result (λ through. through ≡ true → (started ≡ plan.now.cores) × (1 ≤ plan.now.cores)) }
     ensures taken { (verdict_after : List Row → Row → Verdict) (before : O) → IsTaking T.IsToTake verdict_after plan.now before out.old caller.old.taking taker.old
         → HandsOn T.IsToTake T.Stopped (verdicts verdict_after plan.now) before out.new (λ _. taker.new) (λ through rest. through ≡ true → (rest ≡ []) × T.IsOut taker.new) result }
 {
@@ -80,8 +80,10 @@ fn lead<P: Program, T: Taker<O> + Drop, O, R: Threads + Wait>(
     if !matches!(taken, Ok(true)) {
         logs.halt_by_main(&mut caller.free);
     }
-    let answers = join_all::<P, R>(rt, settings, plan, started)?;
+    let answers = join_all::<P, R>(rt, settings, plan, started);
+    // Why the taker stopped is told before that there was no memory to join.
     let through = taken?;
+    let answers = answers?;
     let tallies = tallies_of::<P>(alloc, answers)?;
     if through {
         Ok((tallies, taker))

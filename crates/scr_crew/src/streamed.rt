@@ -54,6 +54,8 @@ pub fn run_streamed<P: Program, G: Gate + Sync, O: Sink, R: Threads + Wait + Syn
     ensures text { StreamsText (O.written out.old) (O.written out.new) result (lines_of P.verdict_names (verdicts (P.verdict_after settings.now) plan.now)) }
     ensures cause { CountsStop O.faults O.wants out.old out.new result }
 {
+    // A plan has few rows, so there are few lines.
+    let _rows = plan.rows();
     let lines = Lines::<P>::new(alloc)?;
     let (Tallies { cores, flows }, lines) = run_taken::<P, G, Lines<P>, O, R>(
         rt, alloc, settings, plan, ring, gate, lines, out,

@@ -42,8 +42,7 @@ pub fn without_the_last<R: Threads + Wait + Sync>(
         taking,
         spent,
     };
-    let mut verdicts: Vec<Given> = Vec::new(alloc);
-    run_crew::<Ddos, OpenGate, Vec<Given>, (), R>(
+    let (tallies, _verdicts) = run_crew::<Ddos, OpenGate, Vec<Given>, (), R>(
         rt,
         alloc,
         settings,
@@ -52,7 +51,8 @@ pub fn without_the_last<R: Threads + Wait + Sync>(
         &OpenGate,
         caller,
         workers,
-        &mut verdicts,
+        Vec::new(alloc),
         &mut (),
-    )
+    )?;
+    Ok(tallies)
 }

@@ -88,10 +88,13 @@ fn assert_stops<R: Threads + Wait + Abort + Sync>(
     rt: &R,
     alloc: Global,
     case: &Case,
+    ring: u32,
     limit: usize,
     failing: u64,
 ) -> Result<bool, Fail>
-    requires { 1 ≤ limit }
+    requires limit { 1 ≤ limit }
+    requires some_slots { 1 ≤ ring }
+    requires few_slots { ring ≤ most_slots }
 {
     let plan = plan_of(alloc, case)?;
     let settings = settings();
@@ -99,7 +102,7 @@ fn assert_stops<R: Threads + Wait + Abort + Sync>(
     let lines = lines_of(alloc, &by_phases.verdicts)?;
     let mut out = MemSink::new(alloc, limit, vec![in alloc; failing; 1]?);
     let streamed = run_streamed::<Ddos, OpenGate, MemSink, R>(
-        rt, alloc, &settings, &plan, 1, &OpenGate, &mut out,
+        rt, alloc, &settings, &plan, ring, &OpenGate, &mut out,
     );
     match streamed {
         Ok(_) => {
@@ -117,19 +120,17 @@ fn assert_stops<R: Threads + Wait + Abort + Sync>(
 
 #[test]
 fn a_failed_write_stops_the_run(rt: HostRuntime) -> Result<(), Fail> {
-    let _long = Case {
-        frames: 20_000,
+    // The lines of the second case fill a batch, so that the first writes come while the run goes on.
+    let long = Case {
+        frames: 7_000,
         ..FOUR
     };
-    for (case, limit) in [(FOUR, 7)] {
+    for (case, ring, limit, writes) in [(FOUR, 1, 7, 3), (long, 1_024, 40_000, 3)] {
         let mut failing = 1;
-        while failing < 100 && !assert_stops(&rt, rt.alloc(), &case, limit, failing)? {
+        while failing < 100 && !assert_stops(&rt, rt.alloc(), &case, ring, limit, failing)? {
             failing += 1;
         }
-        assert!(rt;
-            failing > 2 && failing < 100,
-            "a run without a fault is done"
-        );
+        assert_eq!(rt; failing - 1, writes);
     }
     Ok(())
 }

@@ -6,9 +6,9 @@ use Rattle.scr_crew.specs.Takers.{IsTaking}
 use Rattle.scr_crew.proofs.feeding.feed_and_take.Given as goal
 
 abbrev pub invariant-loop : goal.invariant-loop
-invariant-loop g l =
-    (l.caller.free.logs ≡ l.fn.logs)
-    × ((verdict_after : List Row → Row → Verdict) (before : _) → IsTaking g.T.Taker.IsToTake verdict_after l.fn.plan before l.fn.out l.fn.caller.taking l.fn.taker
-    → IsTaking g.T.Taker.IsToTake verdict_after l.fn.plan before l.out l.caller.taking l.taker)
-    × (goal.iterator-loop g).can_next l.iterator'
-    × (goal.iterator-loop g).is_finished l.iterator'
+invariant-loop g l = record {
+  can_go : (goal.iterator-loop g).can_next l.iterator' × (goal.iterator-loop g).is_finite l.iterator';
+  of_these : l.caller.free.logs ≡ l.fn.logs;
+  way : (verdict_after : List Row → Row → Verdict) (before : g.row.O.Denot) → IsTaking g.T.Taker.IsToTake verdict_after l.fn.plan before l.fn.out l.fn.caller.taking l.fn.taker
+      → IsTaking g.T.Taker.IsToTake verdict_after l.fn.plan before l.out l.caller.taking l.taker;
+}
