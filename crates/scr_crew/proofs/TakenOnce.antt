@@ -11,7 +11,7 @@ use Rattle.scr_plan.specs.declared.given.Given.{Given}
 use Rattle.scr_plan.specs.Delivered.{delivers_to, core_number, delivers}
 use Rattle.scr_plan.specs.Plan.{Plan, frame_count, row_of}
 use Rattle.scr_lane.specs.Ends.{End, HasLooked, moved, FoundNothing}
-use Rattle.scr_replica.specs.OneCore.{given_with, given_at, given_to, verdicts, course}
+use Rattle.scr_replica.specs.OneCore.{given_with, given_at, given_to, verdicts, course, course_up_to}
 use Rattle.scr_replica.proofs.InOrder.{rest, rest-other, taken, passed}
 use Rattle.scr_crew.specs.Cores.{OfCores}
 use Rattle.scr_crew.specs.Verdicts.{StandsIn, HasMoved, IsNewVerdictEnd}
@@ -19,7 +19,7 @@ use Rattle.scr_crew.specs.Takings.{Takings, AreToCome, verdicts_from, course_fro
 
 -- ---- one lane
 
-drop-get : (xs : List Given) (n : ℕ) (given : Given) → slice_get xs n ≡ Some given → drop n xs ≡ given ∷ drop (n + 1) xs
+drop-get : (xs : List Given) (n : ℕ) (given : Given) → slice_get xs n ≡ Some given → drop n xs ≡ given ∷ drop (suc n) xs
 drop-get [] n given e = absurd cc
 drop-get (x ∷ xs) zero given e = let same : x ≡ given = cc in ap (λ (y : Given). y ∷ xs) same
 drop-get (x ∷ xs) (suc n) given e = drop-get xs n given e
@@ -35,8 +35,9 @@ first-taken old new given stands has =
     ] in
     let about : new.about ≡ old.about = ap (λ (x : End (List Given)). x.about) has.2 ∙ same.0 in
     let count : new.count ≡ old.count + 1 = ap (λ (x : End (List Given)). x.count) has.2 ∙ ap (λ (n : ℕ). n + 1) same.1 in
+    let next : suc old.count ≡ new.count = omega (arith, count) in
     drop-get old.about old.count given stands
-    ∙ ap (λ (n : ℕ). given ∷ drop n old.about) (sym count)
+    ∙ ap (λ (n : ℕ). given ∷ drop n old.about) next
     ∙ ap (λ (xs : List Given). given ∷ drop new.count xs) (sym about)
 
 -- the same over what a try to take gave, where none was held
@@ -49,8 +50,7 @@ first-of old new None (Some given) none stands has = first-taken old new given s
 -- where nothing is found, the same is to come
 pub none-taken : (old new : End (List Given)) → FoundNothing old new → still_to_come new None ≡ still_to_come old None
 none-taken old new found =
-    let is : new ≡ record old { looks = new.looks } = cc in
-    ap (λ (x : End (List Given)). drop x.count x.about) found.1.0
+    ap (λ (x : End (List Given)). drop x.count x.about) found.1
 
 module _ (verdict_after : List Row → Row → Verdict) (plan : Plan) where
   frames-from-1 : frame_count plan + 1 - 1 ≡ frame_count plan
@@ -97,25 +97,25 @@ module _ (verdict_after : List Row → Row → Verdict) (plan : Plan) where
 
     not-to : (core : ℕ) → delivers plan n ≡ false → delivers_to plan core n ≡ false
     unfolding delivers_to
-    not-to core no = ap (λ (b : Bool). b && _) no
+    not-to core lost = ap (λ (b : Bool). b && _) lost
 
     course-none : (core : ℕ) → delivers plan n ≡ false → course_from verdict_after plan core n ≡ course_from verdict_after plan core (n + 1)
     unfolding course_from
-    course-none core no =
+    course-none core lost =
         from-here (given_to verdict_after plan core)
-        ∙ ap (λ (b : Bool). cons_option (cond b (option_map (given_with verdict_after plan n) (row_of plan n)) None) (filter_map (given_to verdict_after plan core) (range_with_len (n + 1) (frame_count plan + 1 - (n + 1))))) (not-to core no)
+        ∙ ap (λ (b : Bool). cons_option (cond b (option_map (given_with verdict_after plan n) (row_of plan n)) None) (filter_map (given_to verdict_after plan core) (range_with_len (n + 1) (frame_count plan + 1 - (n + 1))))) (not-to core lost)
 
     module _ (lists : List (List Given)) (coming : AreToCome verdict_after plan (record { next = n; to_come = lists })) where
       -- no verdict of the frame comes: it isn't delivered
       pub absent : delivers plan n ≡ false → (verdicts_from verdict_after plan n ≡ verdicts_from verdict_after plan (n + 1)) × AreToCome verdict_after plan (record { next = n + 1; to_come = lists })
-      absent no = (
-        verdicts-here None (ap (λ (b : Bool). cond b (option_map (given_with verdict_after plan n) (row_of plan n)) None) no),
+      absent lost = (
+        verdicts-here None (ap (λ (b : Bool). cond b (option_map (given_with verdict_after plan n) (row_of plan n)) None) lost),
         record {
           from = omega arith;
           to = omega arith;
           each = record {
             all = coming.each.all;
-            each = λ core item below. coming.each.each core item below ∙ course-none core no;
+            each = λ core item below. coming.each.each core item below ∙ course-none core lost;
           };
         },
       )

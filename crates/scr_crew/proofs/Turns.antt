@@ -38,10 +38,10 @@ module _ (verdict_after : List Row → Row → Verdict) (plan : Plan) (old new :
     -- none came, and the frame isn't delivered
     pub took-none : FrontTells old.next (get_or old.to_come core []) after front.Empty → delivers plan old.next ≡ false
         → new ≡ record { next = old.next + 1; to_come = set old.to_come core after } → ReadyTells verdict_after plan old new ready.Passed
-    took-none same no e =
+    took-none same lost e =
         subst (λ (x : Takings). ReadyTells verdict_after plan old x ready.Passed)
         (sym (e ∙ ap (λ (lists : List (List Given)). record { next = old.next + 1; to_come = lists }) (kept same)))
-        (absent verdict_after plan old.next coming.from to old.to_come coming no)
+        (absent verdict_after plan old.next coming.from to old.to_come coming lost)
 
     -- none came yet
     pub waits : FrontTells old.next (get_or old.to_come core []) after front.Empty
