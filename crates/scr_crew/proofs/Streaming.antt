@@ -12,6 +12,10 @@ use Rattle.scr_crew.specs.declared.lines.Lines.{Lines}
 use Rattle.scr_crew.specs.Streamed.{CountsStop, StreamsText, lines_of}
 use Rattle.scr_crew.specs.Lines.{AreToWrite, IsStoppedWriting}
 
+-- the answer of a run that stopped
+abbrev pub stopped : {T : Type 0} → RunStop → Result T RunStop
+stopped stop = Err stop
+
 module _ {O : Type 0} (written : O → Option (List ℕ)) (faults wants : O → ℕ) (names : List (List ℕ)) (before now : O) (whole : List Given) where
   -- nothing was written
   pub stops-at-once : (want : memory.OutOfMemory) → IsStoppedWriting written faults wants names (OutOfMemory want) before before whole
@@ -22,7 +26,7 @@ module _ {O : Type 0} (written : O → Option (List ℕ)) (faults wants : O → 
   }
 
   -- a front was written, and the sink's counts say whether it stopped the run
-  pub stop-counted : {T : Type 0} (stop : RunStop) → IsStoppedWriting written faults wants names stop before now whole → CountsStop faults wants before now (Err {A = T} stop)
+  pub stop-counted : {T : Type 0} (stop : RunStop) → IsStoppedWriting written faults wants names stop before now whole → CountsStop faults wants before now (stopped {T = T} stop)
   stop-counted stop is = record {
     ok = tt;
     write_fault = λ e. (let same : stop ≡ WriteFault = cc in is.write_fault same);

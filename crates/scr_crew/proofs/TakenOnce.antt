@@ -1,5 +1,5 @@
 -- The verdict of a frame is taken where it comes by the lane of its core.
-use Rattle.std.proofs.Common.{◌≡◌, ◌≢◌, ℕ, zero, suc, ◌+◌, ◌-◌, ◌<◌, ◌≤◌, Bool, true, false, cond, ◌&&◌, List, [], ◌∷◌, length, get_or, set, drop, inl, inr, Option, Some, None, arith, refl, sym, ap, ◌∙◌, subst}
+use Rattle.std.proofs.Common.{◌≡◌, ◌≢◌, ℕ, zero, suc, ◌+◌, ◌-◌, ◌<◌, ◌≤◌, Bool, true, false, cond, ◌&&◌, ◌==◌, List, [], ◌∷◌, length, get_or, set, drop, inl, inr, Option, Some, None, arith, refl, sym, ap, ◌∙◌, subst}
 use Rattle.std.specs.Prelude.{filter_map, MatchOption, IfSome, OnSome}
 use Rattle.std.specs.List.{range_with_len, cons_option, slice_get}
 use Rattle.std.specs.Option.{option_map}
@@ -97,7 +97,7 @@ module _ (verdict_after : List Row → Row → Verdict) (plan : Plan) where
 
     not-to : (core : ℕ) → delivers plan n ≡ false → delivers_to plan core n ≡ false
     unfolding delivers_to
-    not-to core lost = ap (λ (b : Bool). b && _) lost
+    not-to core lost = ap (λ (b : Bool). b && (core_number plan.cores n == core)) lost
 
     course-none : (core : ℕ) → delivers plan n ≡ false → course_from verdict_after plan core n ≡ course_from verdict_after plan core (n + 1)
     unfolding course_from

@@ -8,7 +8,7 @@ use Rattle.scr_report.specs.Outcome.{total_of, totals_of}
 use Rattle.scr_report.proofs.Counting.{AreTotals, AreTotals-named, AreTotals-unnamed, AreTotals-few, AreTotals-all}
 
 module _ (names : List (List ℕ)) (so_far : List Given) (given : Given) (totals : List ℕ) (are : totals ≡ totals_of names so_far) where
-  all : List Given
+  abbrev pub all : List Given
   all = so_far ++ given ∷ []
 
   longer : length all ≡ length so_far + 1

@@ -1,5 +1,5 @@
 -- Lines go through a batch, verdict by verdict.
-use Rattle.std.proofs.Common.{◌≡◌, ◌<◌, ◌^◌, ℕ, ◌+◌, List, [], ◌∷◌, ◌++◌, All, length, Option, Result, Ok, Err, inl, inr, arith, refl, sym, ap, ◌∙◌, subst, append_assoc}
+use Rattle.std.proofs.Common.{◌≡◌, ◌⊎◌, ◌<◌, ◌^◌, ℕ, ◌+◌, List, [], ◌∷◌, ◌++◌, All, length, Option, Result, Ok, Err, inl, inr, arith, refl, sym, ap, ◌∙◌, subst, append_assoc}
 use Rattle.std.specs.Io.KnownBytes.{Appends}
 use Rattle.std.proofs.lemmas.List.{length-append, append-nil}
 use Rattle.scr_base.specs.Causes.{CountsError, counted}
@@ -16,9 +16,13 @@ use Rattle.scr_crew.specs.declared.lines.Lines.{Lines}
 use Rattle.scr_crew.specs.Streamed.{lines_of, stop_of_sink}
 use Rattle.scr_crew.specs.Lines.{AreToWrite, IsStoppedWriting, lines-append}
 
+-- the answer of a sink that failed
+abbrev pub failed : SinkError → Result (Unit {0}) SinkError
+failed error = Err error
+
 module _ {O : Type 0} (faults wants : O → ℕ) where
   -- a sink that answers an error counts it by its kind
-  stops-counting : (before out now : O) (error : SinkError) → CountsError faults wants out now (Err {A = Unit {0}} error) → faults out ≡ faults before → wants out ≡ wants before
+  stops-counting : (before out now : O) (error : SinkError) → CountsError faults wants out now (failed error) → faults out ≡ faults before → wants out ≡ wants before
       → (stop_of_sink error ≡ WriteFault → (faults now ≡ counted (faults before)) × (wants now ≡ wants before))
       × ((want : memory.OutOfMemory) → stop_of_sink error ≡ OutOfMemory want → (faults now ≡ faults before) × ((wants now ≡ wants before) ⊎ (wants now ≡ counted (wants before))))
   stops-counting before out now sink.Failed counts calm-faults calm-wants = (
@@ -70,7 +74,7 @@ module _ {P O : Type 0} (written : O → Option (List ℕ)) (faults wants : O �
 
     -- a write failed, in a text that stands behind the lines so far
     stops-in : (text after : List ℕ) (now : O) (error : SinkError) → AreToWrite written faults wants names lines before out whole rest
-        → StopsWithin (written out) (written now) (lines.batch ++ text) → CountsError faults wants out now (Err {A = Unit {0}} error)
+        → StopsWithin (written out) (written now) (lines.batch ++ text) → CountsError faults wants out now (failed error)
         → lines_of names rest ≡ text ++ after → IsStoppedWriting written faults wants names (stop_of_sink error) before now whole
     stops-in text after now error is stops counts front =
         let all : List ℕ = lines_of names is.front in
@@ -105,7 +109,7 @@ module _ {P O : Type 0} (written : O → Option (List ℕ)) (faults wants : O �
     }
 
     pub stops-flushing : (now : O) (error : SinkError) → AreToWrite written faults wants names lines before out whole rest
-        → StopsWithin (written out) (written now) lines.batch → CountsError faults wants out now (Err {A = Unit {0}} error)
+        → StopsWithin (written out) (written now) lines.batch → CountsError faults wants out now (failed error)
         → IsStoppedWriting written faults wants names (stop_of_sink error) before now whole
     stops-flushing now error is stops counts =
         stops-in [] (lines_of names rest) now error is (subst (λ (t : List ℕ). StopsWithin (written out) (written now) t) (sym (append-nil lines.batch)) stops) counts refl
@@ -113,7 +117,7 @@ module _ {P O : Type 0} (written : O → Option (List ℕ)) (faults wants : O �
   -- the line of the next verdict stopped within
   pub stops-at : (lines : Lines P) (before out : O) (whole rest : List Given) (given : Given) (now : O) (error : SinkError)
       → AreToWrite written faults wants names lines before out whole (given ∷ rest)
-      → StopsWithin (written out) (written now) (lines.batch ++ verdict_line names given) → CountsError faults wants out now (Err {A = Unit {0}} error)
+      → StopsWithin (written out) (written now) (lines.batch ++ verdict_line names given) → CountsError faults wants out now (failed error)
       → IsStoppedWriting written faults wants names (stop_of_sink error) before now whole
   stops-at lines before out whole rest given now error is stops counts =
       stops-in lines before out whole (given ∷ rest) (verdict_line names given) (lines_of names rest) now error is stops counts refl

@@ -1,6 +1,7 @@
-use Rattle.std.proofs.Common.{◌≡◌, ◌<◌, ◌++◌, [], ℕ, List, length, get_or, Bor, Some, refl, sym, ap, ◌∙◌, subst}
+use Rattle.std.proofs.Common.{◌≡◌, ◌+◌, ◌<◌, ◌++◌, [], ℕ, List, length, get_or, Bor, Some, refl, sym, ap, ◌∙◌, subst}
 use Rattle.std.specs.List.{slice_get}
 use Rattle.std.specs.Option.{option_map}
+use Rattle.std.specs.Vec.{with_items}
 use Rattle.std.proofs.lemmas.Option.{get_or_from_slice_get}
 use Rattle.std.proofs.lemmas.Result.{err_from_is_err_and}
 use Rattle.scr_base.specs.Streams.{Passes, StopsWithin}
@@ -43,7 +44,8 @@ returns g c =
     let there : Some name ≡ slice_get names given.verdict.0 = sym (ap (option_map {T = Bor (List ℕ)} {U = List ℕ} (λ name. name.now)) c.in-Some.is) ∙ c.name_of.ensures in
     let line : verdict_line names given ≡ named_line name given.number =
     ap (λ (word : List ℕ). named_line word given.number) (get_or_from_slice_get names given.verdict.0 name [] (sym there)) in
-    writes-one g.O.Sink.written g.O.Sink.faults g.O.Sink.wants names c.args.self.now before c.args.out.now whole rest given _ c.put_line.new.out is
+    writes-one g.O.Sink.written g.O.Sink.faults g.O.Sink.wants names c.args.self.now before c.args.out.now whole rest given
+    (record c.args.self.now { batch = c.put_line.new.batch; taken = c.args.self.now.taken + 1; totals = with_items c.args.self.now.totals c.count.new.totals }) c.put_line.new.out is
     (subst (λ (t : List ℕ). Passes (g.O.Sink.written c.args.out.now) (g.O.Sink.written c.put_line.new.out) c.args.self.now.batch c.put_line.new.batch t) (sym line) c.in_ok-put_line.ensures.text)
     c.in_ok-put_line.ensures.cause.ok
     (λ so_far are. c.count.ensures names so_far given (c.deref_mut.ensures.value ∙ are) refl)
