@@ -9,7 +9,7 @@ returns-in_err-finish g c =
     let told = err_from_is_err_and c.from_residual.result c.from_residual.ensures.1 in
     rw (told.1, told.2)
     (stops-flushing g.O.Sink.written g.O.Sink.faults g.O.Sink.wants g.P.Program.verdict_names c.args.self.now before c.args.out.now whole rest c.finish.new.out
-    c.in_err-finish.field-0 is c.in_err-finish.ensures.text c.in_err-finish.ensures.cause)
+    c.in_err-finish.field-0.0 is c.in_err-finish.ensures.text c.in_err-finish.ensures.cause)
 
 pub returns : goal.returns
 returns g c =

@@ -1,7 +1,8 @@
-use Rattle.std.proofs.Common.{◌≡◌, ◌+◌, ◌<◌, ◌++◌, [], ℕ, List, length, get_or, Bor, Some, refl, sym, ap, ◌∙◌, subst}
+use Rattle.std.proofs.Common.{◌≡◌, ◌+◌, ◌<◌, ◌++◌, [], ℕ, List, length, get_or, Bor, Some, arith, rules, refl, sym, ap, ◌∙◌, subst}
 use Rattle.std.specs.List.{slice_get}
 use Rattle.std.specs.Option.{option_map}
 use Rattle.std.specs.Vec.{with_items}
+use Rattle.std.proofs.lemmas.List.{with_items_is}
 use Rattle.std.proofs.lemmas.Option.{get_or_from_slice_get}
 use Rattle.std.proofs.lemmas.Result.{err_from_is_err_and}
 use Rattle.scr_base.specs.Streams.{Passes, StopsWithin}
@@ -31,7 +32,7 @@ returns-in_err-put_line g c =
     ap (λ (word : List ℕ). named_line word given.number) (get_or_from_slice_get names given.verdict.0 name [] (sym there)) in
     let told = err_from_is_err_and c.from_residual.result c.from_residual.ensures.1 in
     rw (told.1, told.2)
-    (stops-at g.O.Sink.written g.O.Sink.faults g.O.Sink.wants names c.args.self.now before c.args.out.now whole rest given c.put_line.new.out c.in_err-put_line.field-0 is
+    (stops-at g.O.Sink.written g.O.Sink.faults g.O.Sink.wants names c.args.self.now before c.args.out.now whole rest given c.put_line.new.out c.in_err-put_line.field-0.0 is
     (subst (λ (t : List ℕ). StopsWithin (g.O.Sink.written c.args.out.now) (g.O.Sink.written c.put_line.new.out) (c.args.self.now.batch ++ t)) (sym line) c.in_err-put_line.ensures.text)
     c.in_err-put_line.ensures.cause)
 
@@ -48,5 +49,7 @@ returns g c =
     (record c.args.self.now { batch = c.put_line.new.batch; taken = c.args.self.now.taken + 1; totals = with_items c.args.self.now.totals c.count.new.totals }) c.put_line.new.out is
     (subst (λ (t : List ℕ). Passes (g.O.Sink.written c.args.out.now) (g.O.Sink.written c.put_line.new.out) c.args.self.now.batch c.put_line.new.batch t) (sym line) c.in_ok-put_line.ensures.text)
     c.in_ok-put_line.ensures.cause.ok
-    (λ so_far are. c.count.ensures names so_far given (c.deref_mut.ensures.value ∙ are) refl)
+    (λ so_far are.
+    with_items_is c.args.self.now.totals c.count.new.totals (first_of (omega (arith, c.count.auto.totals, c.deref_mut.ensures.len), search rules))
+    ∙ c.count.ensures names so_far given (c.deref_mut.ensures.value ∙ are) refl)
     refl
