@@ -77,7 +77,7 @@ fn lead<P: Program, T: Taker<O> + Drop, O, R: Threads + Wait>(
     ensures taken { HandsOn T.IsToTake T.Stopped (verdicts (P.verdict_after settings.now) plan.now) out.old out.new (λ it. it.1) (λ it rest. OnSome it.0 ((rest ≡ []) × T.IsOut it.1)) result }
 {
     let taken = take_all::<P, T, O, R>(rt, plan, logs, &mut caller, started.len(), &mut taker, out);
-    if !matches!(taken, Ok(true)) {
+    if taken != Ok(true) {
         logs.halt_by_main(&mut caller.free);
     }
     let answers = join_all::<P, R>(rt, settings, plan, started);

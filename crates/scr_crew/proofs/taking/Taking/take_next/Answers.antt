@@ -11,7 +11,7 @@ use Rattle.scr_crew.proofs.taking.Taking.take_next.Goals as goal
 pub returns-then-n-frames : goal.returns-then-n-frames
 returns-then-n-frames g c =
     λ verdict_after coming.
-    let next : c.self.inside.next ≡ c.args.self.now.next = ap (λ (t : Takings). t.next) (sym c.self.view_is) in
+    let next : c.self.inside.next ≡ c.args.self.now.next = ap (λ (t : Takings). t.next) c.self.view_is in
     let behind : frame_count c.args.plan.now < c.args.self.now.next = omega (arith, next, ap length c.rows.ensures.rows, c.if-n-frames.true) in
     (refl, verdicts-from-end verdict_after c.args.plan.now c.args.self.now.next behind)
 
@@ -22,8 +22,8 @@ returns-in-Its g c =
     let old : Takings = c.args.self.now in
     let core : ℕ = c.core_of-core.result in
     let after : List Given = c.take_of.ensures.0 in
-    let next : c.self.inside.next ≡ old.next = ap (λ (t : Takings). t.next) (sym c.self.view_is) in
-    let lists : c.deref_mut.result.now ≡ old.to_come = c.deref_mut.ensures.value ∙ ap (λ (t : Takings). t.to_come) (sym c.self.view_is) in
+    let next : c.self.inside.next ≡ old.next = ap (λ (t : Takings). t.next) c.self.view_is in
+    let lists : c.deref_mut.result.now ≡ old.to_come = c.deref_mut.ensures.value ∙ ap (λ (t : Takings). t.to_come) c.self.view_is in
     let to : old.next ≤ frame_count plan = omega (arith, next, ap length c.rows.ensures.rows, c.if-n-frames.false) in
     let is : core ≡ core_number plan.cores old.next = c.core_of-core.ensures ∙ (λ i. core_number (c.cores.ensures.cores i) (next i)) in
     let below : core < plan.cores = ? in
