@@ -1,4 +1,4 @@
-use Rattle.std.proofs.Common.{Vec, ◌≡◌, ◌+◌, ◌<◌, ◌≤◌, ℕ, List, [], length, get_or, set, refl, sym, ap, ◌∙◌, subst, false, arith, rules}
+use Rattle.std.proofs.Common.{Vec, ◌≡◌, ◌+◌, ◌<◌, ◌≤◌, ℕ, List, [], length, get_or, set, refl, ap, ◌∙◌, subst, false, arith}
 use Rattle.std.proofs.lemmas.List.{with_items_is}
 use Rattle.std.specs.Vec.{with_items}
 use Rattle.scr_base.specs.declared.row.Row.{Row}
@@ -6,7 +6,6 @@ use Rattle.scr_plan.specs.declared.given.Given.{Given}
 use Rattle.scr_plan.specs.Delivered.{core_number, delivers}
 use Rattle.scr_plan.specs.Plan.{Plan, frame_count}
 use Rattle.scr_crew.specs.declared.arrivals.Front.{Front}
-use Rattle.scr_crew.specs.declared.arrivals.Front.TheVariants as front
 use Rattle.scr_crew.specs.Takings.{Takings, FrontTells}
 use Rattle.scr_crew.proofs.TakenOnce.{verdicts-from-end}
 use Rattle.scr_crew.proofs.Turns.{took-its, took-later, took-none}
@@ -49,7 +48,7 @@ returns-then-n-frames g c =
     λ verdict_after coming.
     let next : c.self.inside.next ≡ c.args.self.now.next = ap (λ (t : Takings). t.next) c.self.view_is in
     let behind : frame_count c.args.plan.now < c.args.self.now.next = omega (arith, next, ap length c.rows.ensures.rows, c.if-n-frames.true) in
-    (refl, verdicts-from-end verdict_after c.args.plan.now c.args.self.now.next behind)
+    (refl {a = c.args.self.now}, verdicts-from-end verdict_after c.args.plan.now c.args.self.now.next behind)
 
 pub returns-in-Its : goal.returns-in-Its
 returns-in-Its g c =
