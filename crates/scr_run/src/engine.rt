@@ -38,7 +38,7 @@ use std::thread::Threads;
 
 /// A program over a capture, on the cores of a shape: the capture is read whole, its frames are dealt to the cores, and
 /// the report of what they gathered is written, with the verdicts or without. The cores are threads, or take turns on this
-/// one, as the shape says. It may wait for threads.
+/// one, as the shape says. Where they are threads, the lines of the verdicts leave while they run. It may wait for threads.
 ///
 /// `out` gains the report, whole at [`Status::Done`] and else a front of it.
 pub fn run_engine<P: Program, S: Source, O: Sink, G: Gate + Sync, R: Threads + Wait + Sync>(

@@ -2,9 +2,10 @@
 //!
 //! **What it does.** [`scr_main`] reads the words ([`read_words`]), takes a capture to its end or makes one up, and lets one
 //! of the five programs, a chain of two or a table give verdicts: on its own ([`plain_run`]), or on up to 16 cores, in
-//! threads or in turns, that share no table ([`run_engine`]). Then it writes the report. Where a run ends otherwise, it
-//! writes a line about it to a second sink. A [`Status`] tells how it ended and has the exit code, and
-//! [`write_fault_line`] writes the line of any status.
+//! threads or in turns, that share no table ([`run_engine`]). Then it writes the report. Where the cores are threads, the
+//! lines of its verdicts leave while they run, and the rest comes behind them. Where a run ends otherwise, it writes a line
+//! about it to a second sink. A [`Status`] tells how it ended and has the exit code, and [`write_fault_line`] writes the
+//! line of any status.
 //!
 //! **What a contract sees.** Words, captures, reports and lines as lists of bytes, and streams as scr_base has them, by
 //! what is left or written and by counts of failures and wants. A program is seen by its row of a frame, its verdict of a

@@ -1,4 +1,4 @@
-use Rattle.std.proofs.Common.{◌≡◌, ◌<◌, List, All, length, ap, ◌∙◌, sym, subst, refl}
+use Rattle.std.proofs.Common.{◌≡◌, ◌<◌, Bool, true, List, All, length, ap, ◌∙◌, sym, subst, refl}
 use Rattle.std.proofs.lemmas.Result.{err_from_is_err_and}
 use Rattle.scr_plan.specs.declared.given.Given.{Given}
 use Rattle.scr_plan.specs.Plan.{Plan, frame_count}
@@ -35,6 +35,25 @@ returns-in_err-rows g c =
     record {
       ends = rw failed.1 (rw failed.2 (Ends-stopped _ (g.S.Source.left c.args.capture.now) _ _ g.O.Sink.written g.O.Sink.faults g.O.Sink.wants c.args.out.now _ _ _ tt
           c.in_err-rows.ensures.stop));
+    }
+
+pub returns-then-with_verdicts : goal.returns-then-with_verdicts
+returns-then-with_verdicts g c =
+    let settings = c.args.settings.now in
+    let shape = c.args.shape in
+    let names = g.P.Program.verdict_names in
+    let row_of = g.P.Program.row_of settings in
+    let rules : Rules = ruled_by row_of (g.P.Program.verdict_after settings) (g.P.Program.count_after settings) names in
+    let plan = c.make-plan.result in
+    let rows = c.in_ok-rows.ensures.rows in
+    let shaped = plan-of plan (rows_of row_of rows.0) shape.cores shape.history shape.link
+    (c.make-plan.ensures.rows ∙ rows.2) c.make-plan.ensures.cores c.make-plan.ensures.history c.make-plan.ensures.link in
+    let is = ap (λ (p : Plan). report_text names (outcome_of rules p) true) shaped
+    ∙ ap (λ (with_verdicts : Bool). shaped_text rules shape with_verdicts rows.0) (sym c.if-with_verdicts.true) in
+    record {
+      ends = Ends-behind g.O.Sink.written g.O.Sink.faults g.O.Sink.wants _ _ _ _ _ _ _ _ (ended c.write_streamed.result)
+          (IsOfCapture-from (shaped_text rules shape c.args.with_verdicts) _ (g.S.Source.left c.args.capture.now) rows.0 rows.1 is)
+          c.in_ok-rows.ensures.end c.in_ok-rows.ensures.calm c.write_streamed.ensures.ends;
     }
 
 pub returns : goal.returns
