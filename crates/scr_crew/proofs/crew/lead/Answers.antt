@@ -16,7 +16,7 @@ returns-in_err-answers-clause-taken g c =
     let hand = went-on c.take_all-taken.result c.in_ok-through.through c.in_ok-through.was (c.take_all-taken.ensures.taken verdict_after c.args.out.now c.requires.taking) in
     let told = err_from_is_err_and c.from_residual-in_err-answers.result c.from_residual-in_err-answers.ensures.1 in
     rw (told.1, told.2)
-    (record { each = g.met.T.Taker.may_lack c.take_all-taken.new.taker c.args.out.now c.take_all-taken.new.out (verdicts verdict_after c.args.plan.now) hand.0 c.in_err-answers.field-0.0 hand.1 })
+    (record { each = g.T.Taker.may_lack c.take_all-taken.new.taker c.args.out.now c.take_all-taken.new.out (verdicts verdict_after c.args.plan.now) hand.0 c.in_err-answers.field-0.0 hand.1 })
 
 pub returns-in_err-tallies-clause-taken : goal.returns-in_err-tallies-clause-taken
 returns-in_err-tallies-clause-taken g c =
@@ -24,7 +24,7 @@ returns-in_err-tallies-clause-taken g c =
     let hand = went-on c.take_all-taken.result c.in_ok-through.through c.in_ok-through.was (c.take_all-taken.ensures.taken verdict_after c.args.out.now c.requires.taking) in
     let told = err_from_is_err_and c.from_residual-in_err-tallies.result c.from_residual-in_err-tallies.ensures.1 in
     rw (told.1, told.2)
-    (record { each = g.met.T.Taker.may_lack c.take_all-taken.new.taker c.args.out.now c.take_all-taken.new.out (verdicts verdict_after c.args.plan.now) hand.0 c.in_err-tallies.field-0.0 hand.1 })
+    (record { each = g.T.Taker.may_lack c.take_all-taken.new.taker c.args.out.now c.take_all-taken.new.out (verdicts verdict_after c.args.plan.now) hand.0 c.in_err-tallies.field-0.0 hand.1 })
 
 pub returns-then-through-clause-tally : goal.returns-then-through-clause-tally
 returns-then-through-clause-tally g c =
