@@ -12,15 +12,11 @@
 //! which settings, over which plan and for which core it answers. An end of a verdict lane as the verdicts of its core and
 //! how many of them it has sent or taken. What takes the verdicts as the list that it is to take, and the rest of it.
 //!
-//! **What is proved.** Each core begins with the end of its own lane, the only pass of its core and a new end of its own
-//! verdict lane, by logs and lanes of the run's plan. Its verdicts go by that lane in order, each once and whole at its end,
-//! and each answer is placed by its core.
-//!
-//! **What is being proved.** The clauses of [`run_threads`] and [`run_streamed`] stand, and their proofs aren't whole yet: that
-//! a run in threads gives the verdicts and the entries of the one-core answer, and the counts of each core as the plan
-//! defines them, for every program, link, number of slots, gate and schedule, also where a thread can't be started; that
-//! the lines of those verdicts are written, whole at `Ok` and else a front; and that the sink's counts say whether it
-//! stopped the run. This is to hold if the call returns.
+//! **What is proved.** A run in threads gives the verdicts and the entries of the one-core answer, and the counts of each core as
+//! the plan defines them, for every program, link, number of slots, gate and schedule, also where a thread can't be started.
+//! Where its verdicts leave as lines, these are written in the order of the frames, all at `Ok` and else a front of them, and
+//! the sink's counts say whether it stopped the run. A verdict lane gives the verdicts of its core in order, each once. All
+//! this holds if the call returns.
 //!
 //! **What is only tested.** That a run in threads comes to its end, over links that drop, repeat and delay, with one slot and
 //! with 1,024, and over a sink whose calls fail; that the cores run beside each other and publish every packet, by a gate at
