@@ -1,9 +1,8 @@
 -- A report whose lines of verdicts have left before the rest of it is written.
-use Rattle.std.proofs.Common.{◌≡◌, ◌<◌, ◌+◌, ℕ, List, [], ◌∷◌, ◌++◌, length, map, Option, Result, Ok, Err, MatchResult, true, false, inl, inr, arith, refl, sym, ap, ◌∙◌, subst, append_assoc}
-use Rattle.std.specs.List.{concat}
+use Rattle.std.proofs.Common.{◌≡◌, ◌<◌, ◌+◌, ℕ, List, [], ◌++◌, length, Option, Result, Err, MatchResult, true, false, inr, arith, refl, sym, ap, ◌∙◌, subst, append_assoc}
 use Rattle.std.specs.Io.KnownBytes.{Appends}
 use Rattle.std.proofs.lemmas.List.{length-append}
-use Rattle.scr_base.specs.Causes.{CountsError, counted}
+use Rattle.scr_base.specs.Causes.{CountsError}
 use Rattle.scr_base.specs.Streams.{AppendsPrefix, StopsWithin, WritesText}
 use Rattle.scr_base.specs.declared.sink.SinkError.{SinkError}
 use Rattle.scr_base.proofs.Counts.{CountsError-then}

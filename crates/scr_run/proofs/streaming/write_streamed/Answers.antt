@@ -38,7 +38,7 @@ returns-in_err-write_report g c =
     let found = c.in_ok-streamed.ensures in
     let failed = err_from_is_err_and c.from_residual-in_err-write_report.result c.from_residual-in_err-write_report.ensures.1 in
     let same = counters-alone names (outcome_of rules plan) _ _ _ _ _ c.rest_on-report.ensures
-        (found.delivered ∙ length-verdicts-delivered verdict_after plan) found.cores found.flows found.totals in
+    (found.delivered ∙ length-verdicts-delivered verdict_after plan) found.cores found.flows found.totals in
     record {
       ends = rw failed.1 (Ends-behind_lines names (outcome_of rules plan) g.O.Sink.written g.O.Sink.faults g.O.Sink.wants c.args.out.now _ _ c.rest_on-report.result _ _
           found.text found.cause.ok same (rw c.in_ok-names.ensures at c.in_err-write_report.ensures.text) c.in_err-write_report.ensures.cause failed.2);
@@ -53,7 +53,7 @@ returns g c =
     let rules : Rules = ruled_by (g.P.Program.row_of settings) verdict_after (g.P.Program.count_after settings) names in
     let found = c.in_ok-streamed.ensures in
     let same = counters-alone names (outcome_of rules plan) _ _ _ _ _ c.rest_on-report.ensures
-        (found.delivered ∙ length-verdicts-delivered verdict_after plan) found.cores found.flows found.totals in
+    (found.delivered ∙ length-verdicts-delivered verdict_after plan) found.cores found.flows found.totals in
     record {
       ends = Ends-behind_lines names (outcome_of rules plan) g.O.Sink.written g.O.Sink.faults g.O.Sink.wants c.args.out.now _ _ c.rest_on-report.result _ _
           found.text found.cause.ok same (rw c.in_ok-names.ensures at c.in_ok-write_report.ensures.text) c.in_ok-write_report.ensures.cause refl;
