@@ -1,5 +1,5 @@
 -- The verdict of a frame is taken where it comes by the lane of its core.
-use Rattle.std.proofs.Common.{◌≡◌, ◌≢◌, ℕ, zero, suc, ◌+◌, ◌-◌, ◌<◌, ◌≤◌, Bool, true, false, cond, ◌&&◌, ◌==◌, List, [], ◌∷◌, length, get_or, set, drop, inl, inr, Option, Some, None, arith, refl, sym, ap, ◌∙◌, subst}
+use Rattle.std.proofs.Common.{◌≡◌, ◌≢◌, ℕ, zero, suc, ◌+◌, ◌-◌, ◌<◌, ◌≤◌, Bool, false, cond, ◌&&◌, ◌==◌, List, [], ◌∷◌, length, get_or, set, drop, inl, inr, Option, Some, None, arith, refl, sym, ap, ◌∙◌, subst}
 use Rattle.std.specs.Prelude.{filter_map, MatchOption, IfSome, OnSome}
 use Rattle.std.specs.List.{range_with_len, cons_option, slice_get}
 use Rattle.std.specs.Option.{option_map}
@@ -10,12 +10,11 @@ use Rattle.scr_base.specs.declared.row.Verdict.{Verdict}
 use Rattle.scr_plan.specs.declared.given.Given.{Given}
 use Rattle.scr_plan.specs.Delivered.{delivers_to, core_number, delivers}
 use Rattle.scr_plan.specs.Plan.{Plan, frame_count, row_of}
-use Rattle.scr_lane.specs.Ends.{End, HasLooked, moved, FoundNothing}
-use Rattle.scr_replica.specs.OneCore.{given_with, given_at, given_to, verdicts, course, course_up_to}
+use Rattle.scr_lane.specs.Ends.{End, FoundNothing}
+use Rattle.scr_replica.specs.OneCore.{given_with, given_at, given_to, verdicts, course_up_to}
 use Rattle.scr_replica.proofs.InOrder.{rest, rest-other, taken, passed}
-use Rattle.scr_crew.specs.Cores.{OfCores}
 use Rattle.scr_crew.specs.Verdicts.{StandsIn, HasMoved, IsNewVerdictEnd}
-use Rattle.scr_crew.specs.Takings.{Takings, AreToCome, verdicts_from, course_from, still_to_come}
+use Rattle.scr_crew.specs.Takings.{AreToCome, verdicts_from, course_from, still_to_come}
 
 -- ---- one lane
 
