@@ -45,10 +45,3 @@ module _ {T O R : Type 0} {IsToTake : T → (before now : O) → (whole rest : L
       let same : x ≡ it = cc in
       subst (λ (y : R). (rest : List Given) × IsToTake (taker y) before now whole rest × Then y rest) same on.each
   went-on (Err x) it e on = absurd cc
-
-  -- why it stopped, where it did
-  pub stopped-for : (result : Result R RunStop) (stop : RunStop) → result ≡ Err stop → HandsOn IsToTake Stopped whole before now taker Then result → Stopped stop before now whole
-  stopped-for (Ok x) stop e on = absurd cc
-  stopped-for (Err x) stop e on =
-      let same : x ≡ stop = cc in
-      subst (λ (s : RunStop). Stopped s before now whole) same on.each

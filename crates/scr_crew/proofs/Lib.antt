@@ -7,6 +7,5 @@ mod Totals
 mod Writing
 mod Turns
 mod Handing
-mod Streaming
 mod Named
 mod NewArrivals

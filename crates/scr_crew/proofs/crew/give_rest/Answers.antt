@@ -1,4 +1,4 @@
-use Rattle.std.proofs.Common.{◌≡◌, ◌+◌, ◌-◌, ◌∷◌, List, length, get_or, take, drop, subst, ap, ◌∙◌, add-one, sym, drop-cons}
+use Rattle.std.proofs.Common.{◌≡◌, ◌+◌, ◌-◌, ◌∷◌, List, length, get_or, take, drop, subst, add-one, drop-cons}
 use Rattle.scr_plan.specs.declared.given.Given.{Given}
 use Rattle.scr_crew.proofs.crew.give_rest.Goals as goal
 
