@@ -14,6 +14,7 @@ use std::sync::Wait;
 use std::test::Fail;
 use std::thread::Threads;
 
+mod early;
 mod leaving;
 mod meeting;
 mod refusing;

@@ -11,5 +11,7 @@ returns-in_err-started-clause-taken g c =
     let verdict_after : List Row → Row → Verdict = g.P.Program.verdict_after c.args.settings.now in
     let told = err_from_is_err_and c.from_residual.result c.from_residual.ensures.1 in
     rw (told.1, told.2)
-    (record { each = g.T.Taker.may_lack c.args.taker c.args.out.now c.args.out.now (verdicts verdict_after c.args.plan.now)
-      (verdicts_from verdict_after c.args.plan.now c.args.caller.taking.next) c.in_err-started.field-0.0 c.requires.taking.to_take })
+    (record {
+      each = g.T.Taker.may_lack c.args.taker c.args.out.now c.args.out.now (verdicts verdict_after c.args.plan.now)
+          (verdicts_from verdict_after c.args.plan.now c.args.caller.taking.next) c.in_err-started.field-0.0 c.requires.taking.to_take;
+    })

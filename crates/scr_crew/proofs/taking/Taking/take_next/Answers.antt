@@ -54,7 +54,7 @@ pub returns-in-Its : goal.returns-in-Its
 returns-in-Its g c =
     λ verdict_after coming.
     let at : Turn c.args.plan.now c.args.self.now c.core_of-core.result =
-        at-turn c.args.plan.now c.args.self.now c.self.inside.next _ c.core_of-core.result _ c.rows.result.now c.self.view_is c.cores.ensures.cores c.cores.ensures.ranges.a_core c.rows.ensures.rows c.if-n-frames.false c.core_of-core.ensures in
+    at-turn c.args.plan.now c.args.self.now c.self.inside.next _ c.core_of-core.result _ c.rows.result.now c.self.view_is c.cores.ensures.cores c.cores.ensures.ranges.a_core c.rows.ensures.rows c.if-n-frames.false c.core_of-core.ensures in
     took-its verdict_after c.args.plan.now c.args.self.now c.pass.new.self coming at.to c.core_of-core.result at.is at.below c.take_of.ensures.0 c.in-Its.given
     (told c.self.inside.arrivals c.self.inside.next c.core_of-core.result c.args.self.now c.deref_mut.result.now c.take_of.ensures.0 _ _ c.self.view_is c.deref_mut.ensures.value c.in-Its.is c.take_of.ensures.2)
     (turned c.self.inside.arrivals c.self.inside.next c.core_of-core.result c.args.self.now c.pass.new.self c.deref_mut.result.now c.take_of.new.arrivals c.take_of.ensures.0 c.self.view_is c.deref_mut.ensures.value c.take_of.ensures.1
@@ -64,7 +64,7 @@ pub returns-in-Later : goal.returns-in-Later
 returns-in-Later g c =
     λ verdict_after coming.
     let at : Turn c.args.plan.now c.args.self.now c.core_of-core.result =
-        at-turn c.args.plan.now c.args.self.now c.self.inside.next _ c.core_of-core.result _ c.rows.result.now c.self.view_is c.cores.ensures.cores c.cores.ensures.ranges.a_core c.rows.ensures.rows c.if-n-frames.false c.core_of-core.ensures in
+    at-turn c.args.plan.now c.args.self.now c.self.inside.next _ c.core_of-core.result _ c.rows.result.now c.self.view_is c.cores.ensures.cores c.cores.ensures.ranges.a_core c.rows.ensures.rows c.if-n-frames.false c.core_of-core.ensures in
     took-later verdict_after c.args.plan.now c.args.self.now c.pass-in-Later.new.self coming at.to c.core_of-core.result at.is at.below c.take_of.ensures.0
     (told c.self.inside.arrivals c.self.inside.next c.core_of-core.result c.args.self.now c.deref_mut.result.now c.take_of.ensures.0 _ _ c.self.view_is c.deref_mut.ensures.value c.in-Later.is c.take_of.ensures.2)
     (turned c.self.inside.arrivals c.self.inside.next c.core_of-core.result c.args.self.now c.pass-in-Later.new.self c.deref_mut.result.now c.take_of.new.arrivals c.take_of.ensures.0 c.self.view_is c.deref_mut.ensures.value c.take_of.ensures.1
@@ -74,7 +74,7 @@ pub returns-in-Empty-2 : goal.returns-in-Empty-2
 returns-in-Empty-2 g c =
     λ verdict_after coming.
     let at : Turn c.args.plan.now c.args.self.now c.core_of-core.result =
-        at-turn c.args.plan.now c.args.self.now c.self.inside.next _ c.core_of-core.result _ c.rows.result.now c.self.view_is c.cores.ensures.cores c.cores.ensures.ranges.a_core c.rows.ensures.rows c.if-n-frames.false c.core_of-core.ensures in
+    at-turn c.args.plan.now c.args.self.now c.self.inside.next _ c.core_of-core.result _ c.rows.result.now c.self.view_is c.cores.ensures.cores c.cores.ensures.ranges.a_core c.rows.ensures.rows c.if-n-frames.false c.core_of-core.ensures in
     took-none verdict_after c.args.plan.now c.args.self.now c.pass-in-Empty-2.new.self coming at.to c.core_of-core.result at.is at.below c.take_of.ensures.0
     (told c.self.inside.arrivals c.self.inside.next c.core_of-core.result c.args.self.now c.deref_mut.result.now c.take_of.ensures.0 _ _ c.self.view_is c.deref_mut.ensures.value c.in-Empty.is c.take_of.ensures.2)
     (subst (λ (t : Takings). delivers c.args.plan.now t.next ≡ false) c.self.view_is (c.awaits.ensures.no c.if-awaits.false))
