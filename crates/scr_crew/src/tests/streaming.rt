@@ -118,6 +118,26 @@ fn assert_stops<R: Threads + Wait + Abort + Sync>(
     }
 }
 
+// How many times a run writes: it is done where a later call of its sink would fail.
+fn writes_of<R: Threads + Wait + Abort + Sync>(
+    rt: &R,
+    alloc: Global,
+    case: &Case,
+    ring: u32,
+    limit: usize,
+) -> Result<u64, Fail>
+    requires limit { 1 ≤ limit }
+    requires some_slots { 1 ≤ ring }
+    requires few_slots { ring ≤ most_slots }
+{
+    for failing in 1..100 {
+        if assert_stops(rt, alloc, case, ring, limit, failing)? {
+            return Ok(failing - 1);
+        }
+    }
+    Err("a run that is done".into())
+}
+
 #[test]
 fn a_failed_write_stops_the_run(rt: HostRuntime) -> Result<(), Fail> {
     // The lines of the second case fill a batch, so that the first writes come while the run goes on.
@@ -125,12 +145,7 @@ fn a_failed_write_stops_the_run(rt: HostRuntime) -> Result<(), Fail> {
         frames: 7_000,
         ..FOUR
     };
-    for (case, ring, limit, writes) in [(FOUR, 1, 7, 3), (long, 1_024, 40_000, 3)] {
-        let mut failing = 1;
-        while failing < 100 && !assert_stops(&rt, rt.alloc(), &case, ring, limit, failing)? {
-            failing += 1;
-        }
-        assert_eq!(rt; failing - 1, writes);
-    }
+    assert_eq!(rt; writes_of(&rt, rt.alloc(), &FOUR, 1, 7)?, 3);
+    assert_eq!(rt; writes_of(&rt, rt.alloc(), &long, 1_024, 40_000)?, 3);
     Ok(())
 }
