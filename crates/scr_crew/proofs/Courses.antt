@@ -1,5 +1,5 @@
 -- The course of a core, verdict by verdict.
-use Rattle.std.proofs.Common.{inl, inr, ◌≡◌, ℕ, suc, ◌+◌, ◌≤◌, Bool, List, [], ◌∷◌, ◌++◌, length, Option, Some, None, Result, Ok, Err, refl, sym, ap, ◌∙◌, subst, arith, append_assoc}
+use Rattle.std.proofs.Common.{inl, inr, ◌≡◌, ℕ, ◌+◌, ◌≤◌, Bool, List, [], ◌∷◌, ◌++◌, length, Option, Some, None, Result, Ok, Err, refl, sym, ap, ◌∙◌, subst, arith, append_assoc}
 use Rattle.std.specs.Prelude.{filter_map, is_ok, OnOk, OnErr, if◌then◌else◌}
 use Rattle.std.specs.List.{range_with_len, cons_option, slice_get}
 use Rattle.std.proofs.lemmas.List.{length-append, append-nil}
@@ -8,7 +8,7 @@ use Rattle.scr_base.specs.declared.row.Row.{Row}
 use Rattle.scr_base.specs.declared.row.Verdict.{Verdict}
 use Rattle.scr_plan.specs.declared.given.Given.{Given}
 use Rattle.scr_plan.specs.Plan.{Plan, frame_count}
-use Rattle.scr_lane.specs.Ends.{End, FoundNoRoom, HasLooked, moved}
+use Rattle.scr_lane.specs.Ends.{End, FoundNoRoom}
 use Rattle.scr_replica.specs.OneCore.{given_at, given_to, course, course_up_to, verdicts}
 use Rattle.scr_crew.specs.Verdicts.{StandsIn, HasMoved, IsToGet}
 
