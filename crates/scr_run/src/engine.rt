@@ -126,7 +126,7 @@ pub(crate) fn run_cores<P: Program, S: Source, O: Sink, G: Gate + Sync, R: Threa
 }
 
 // What the cores gather, in threads or in turns.
-fn gathered_by<P: Program, G: Gate + Sync, R: Threads + Wait + Sync>(
+pub(crate) fn gathered_by<P: Program, G: Gate + Sync, R: Threads + Wait + Sync>(
     host: &Host<'_, R, G>,
     settings: &P::Settings,
     plan: &RunPlan,
@@ -147,7 +147,7 @@ fn gathered_by<P: Program, G: Gate + Sync, R: Threads + Wait + Sync>(
 }
 
 // What the cores gathered, as a report.
-fn report_on<P: Program>(
+pub(crate) fn report_on<P: Program>(
     alloc: Global,
     plan: &RunPlan,
     gathered: Gathered,
@@ -184,7 +184,7 @@ pub(crate) fn kept_of(plan: &RunPlan, cores: &[CoreCounts]) -> u32
 }
 
 // The rows of all frames of a capture.
-fn rows_read<P: Program, S: Source>(
+pub(crate) fn rows_read<P: Program, S: Source>(
     alloc: Global,
     settings: &P::Settings,
     capture: &mut S,

@@ -35,7 +35,11 @@ mod host;
 mod laws;
 mod names;
 mod plain;
+mod planned;
+mod replay;
+mod spray;
 mod status;
+mod stream_line;
 mod streaming;
 mod task;
 #[cfg(test)]
