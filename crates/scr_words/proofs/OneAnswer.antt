@@ -122,7 +122,7 @@ AreAccepted-not_refused (first ∷ operands) settings fault accepted refused =
     not_refused settings.command operands settings.program fault accepted.faultless accepted.chosen_are.program
     (MatchOption-at_some _ _ settings.command accepted.command refused)
 
-AreAccepted-same : (words : List (List ℕ)) (a b : RunSettings) → AreAccepted words a → AreAccepted words b → a ≡ b
+pub AreAccepted-same : (words : List (List ℕ)) (a b : RunSettings) → AreAccepted words a → AreAccepted words b → a ≡ b
 AreAccepted-same [] a b one other = absurd one
 AreAccepted-same (first ∷ operands) a b one other =
     AreChosen-same operands a b (HaveFaultlessValues-from a.command operands one.faultless)
