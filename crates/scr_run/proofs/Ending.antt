@@ -97,6 +97,11 @@ module _ {O : Type 0} (written : O → Option (List ℕ)) (faults wants : O → 
         wants_behind = inr (counts.out_of_memory want refl).1;
       })
 
+  -- of the same text
+  pub Ends-of_text : (text other : List ℕ) (status : Status) → text ≡ other → Ends (IsText text) ⊥ (Unit {0}) written 0 0 faults wants old new status
+      → Ends (IsText other) ⊥ (Unit {0}) written 0 0 faults wants old new status
+  Ends-of_text text other status same ends = subst (λ (t : List ℕ). Ends (IsText t) ⊥ (Unit {0}) written 0 0 faults wants old new status) same ends
+
   -- behind a capture that was read to its end
   pub Ends-behind : (text : List ℕ) (Asked : Result (List ℕ) Status → Type 0) (Takes AtEnd : Type 0) (failed_before failed : ℕ) (status : Status)
       → Asked (Ok text) → AtEnd → failed ≡ failed_before → Ends (IsText text) ⊥ (Unit {0}) written 0 0 faults wants old new status

@@ -1,14 +1,13 @@
 -- A report whose lines of verdicts have left before the rest of it is written.
-use Rattle.std.proofs.Common.{◌≡◌, ◌<◌, ◌+◌, ℕ, List, [], ◌∷◌, ◌++◌, length, map, Option, Result, Ok, Err, MatchResult, true, false, inl, inr, arith, refl, sym, ap, ◌∙◌, subst, append_assoc}
-use Rattle.std.specs.List.{concat}
+use Rattle.std.proofs.Common.{◌≡◌, ◌<◌, ◌+◌, ℕ, List, [], ◌++◌, length, Option, Result, Err, MatchResult, true, false, inr, arith, refl, sym, ap, ◌∙◌, subst, append_assoc}
 use Rattle.std.specs.Io.KnownBytes.{Appends}
 use Rattle.std.proofs.lemmas.List.{length-append}
-use Rattle.scr_base.specs.Causes.{CountsError, counted}
+use Rattle.scr_base.specs.Causes.{CountsError}
 use Rattle.scr_base.specs.Streams.{AppendsPrefix, StopsWithin, WritesText}
 use Rattle.scr_base.specs.declared.sink.SinkError.{SinkError}
 use Rattle.scr_base.proofs.Counts.{CountsError-then}
+use Rattle.scr_plan.specs.declared.counting.CoreCounts.{CoreCounts}
 use Rattle.scr_report.specs.Outcome.{Outcome, report_text, verdict_lines, counter_lines}
-use Rattle.scr_report.specs.Text.{frames_line}
 use Rattle.scr_report.proofs.Written.{concat-append, piece-then}
 use Rattle.scr_crew.specs.declared.run_stop.RunStop.{RunStop}
 use Rattle.scr_crew.specs.declared.run_stop.RunStop.TheVariants as stops
@@ -18,21 +17,32 @@ use Rattle.scr_run.specs.declared.status.Status.TheVariants.{Done}
 use Rattle.scr_run.specs.Ends.{Ends, IsText, status_of_sink, status_of_stop}
 use Rattle.scr_run.proofs.Ending.{Ends-of_write}
 
+-- a run that stopped
+abbrev pub failed : (T : Type 0) → RunStop → Result T RunStop
+failed T stop = Err stop
+
 module _ (names : List (List ℕ)) (outcome : Outcome) where
-  lines : List ℕ
+  abbrev pub lines : List ℕ
   lines = lines_of names outcome.verdicts
 
-  counters : List ℕ
+  abbrev pub counters : List ℕ
   counters = report_text names outcome false
+
+  -- they are those of a report without the verdicts
+  pub counters-alone : (rest : Outcome) (delivered : ℕ) (cores : List CoreCounts) (flows : ℕ) (totals : List ℕ)
+      → rest ≡ record { verdicts = []; frames = outcome.frames; delivered = delivered; kept = outcome.kept; cores = cores; flows = flows; totals = totals }
+      → delivered ≡ outcome.delivered → cores ≡ outcome.cores → flows ≡ outcome.flows → totals ≡ outcome.totals
+      → report_text names rest false ≡ report_text names outcome false
+  counters-alone rest delivered cores flows totals is a b c d =
+      ap (λ (o : Outcome). report_text names o false) is
+      ∙ (λ i. report_text names (record { verdicts = []; frames = outcome.frames; delivered = a i; kept = outcome.kept; cores = b i; flows = c i; totals = d i }) false)
 
   report-is : report_text names outcome true ≡ lines ++ counters
   report-is = concat-append (verdict_lines names outcome) (counter_lines names outcome)
 
   -- some bytes stand behind the lines
   some-counters : 0 < length counters
-  some-counters =
-      let first : List ℕ = frames_line outcome.frames outcome.delivered outcome.kept in
-      omega (arith, length-append {A = ℕ})
+  some-counters = omega arith
 
   module _ {O : Type 0} (written : O → Option (List ℕ)) (faults wants : O → ℕ) (old : O) where
     stops-within : (new : O) → AppendsPrefix (written old) (written new) lines → StopsWithin (written old) (written new) (report_text names outcome true)
@@ -41,21 +51,21 @@ module _ (names : List (List ℕ)) (outcome : Outcome) where
       rest = front.rest ++ counters;
       gained = front.gained;
       parts = report-is ∙ ap (λ (t : List ℕ). t ++ counters) front.parts ∙ append_assoc front.sent front.rest counters;
-      outstanding = (let some = some-counters in omega (arith, length-append front.rest counters));
+      outstanding = omega (arith, length-append front.rest counters, some-counters);
     }
 
     -- it stopped among the lines
-    pub Ends-among_lines : (new : O) (stop : RunStop) (status : Status) → AppendsPrefix (written old) (written new) lines
-        → CountsStop faults wants old new (Err {A = Unit {0}} stop) → status ≡ status_of_stop stop
+    pub Ends-among_lines : (T : Type 0) (new : O) (stop : RunStop) (status : Status) → AppendsPrefix (written old) (written new) lines
+        → CountsStop faults wants old new (failed T stop) → status ≡ status_of_stop stop
         → Ends (IsText (report_text names outcome true)) ⊥ (Unit {0}) written 0 0 faults wants old new status
-    Ends-among_lines new stops.WriteFault status front counts is =
+    Ends-among_lines T new stops.WriteFault status front counts is =
         subst (λ (s : Status). Ends (IsText (report_text names outcome true)) ⊥ (Unit {0}) written 0 0 faults wants old new s) (sym is) (record {
           stands = record { text = report_text names outcome true; asked = refl; front = stops-within new front; end = tt };
           reads = refl;
           writes = (counts.write_fault refl).0;
           wants_behind = (counts.write_fault refl).1;
         })
-    Ends-among_lines new (stops.OutOfMemory want) status front counts is =
+    Ends-among_lines T new (stops.OutOfMemory want) status front counts is =
         subst (λ (s : Status). Ends (IsText (report_text names outcome true)) ⊥ (Unit {0}) written 0 0 faults wants old new s) (sym is) (record {
           stands = inr (record { text = report_text names outcome true; asked = refl; front = stops-within new front; end = tt });
           reads = refl;

@@ -2,14 +2,15 @@
 //!
 //! **What it does.** [`scr_main`] reads the words ([`read_words`]), takes a capture to its end or makes one up, and lets one
 //! of the five programs, a chain of two or a table give verdicts: on its own ([`plain_run`]), or on up to 16 cores, in
-//! threads or in turns, that share no table ([`run_engine`]). Then it writes the report. Or it writes what the cores are
-//! delivered of a capture as a stream, or reads such a stream in place of a capture. Where a run ends otherwise, it writes a
-//! line about it to a second sink. A [`Status`] tells how it ended and has the exit code, and [`write_fault_line`] writes the
+//! threads or in turns, that share no table ([`run_engine`]). Then it writes the report. Where the cores are threads, the
+//! lines of its verdicts leave while they run, and the rest comes behind them. Or it writes what the cores are delivered of a
+//! capture as a stream, or reads such a stream in place of a capture. Where a run ends otherwise, it writes a line about it to
+//! a second sink. A [`Status`] tells how it ended and has the exit code, and [`write_fault_line`] writes the
 //! line of any status.
 //!
 //! **What a contract sees.** Words, captures, reports and lines as lists of bytes, streams that are sprayed and replayed too,
-//! and sources and sinks as scr_base has them, by what is left or written and by counts of failures and wants. A program is seen by its row of a frame, its verdict of a
-//! row after others, its count of entries and its names (specs/Rules.antt). The report of a run is that of the one-core
+//! and sources and sinks as scr_base has them, by what is left or written and by counts of failures and wants. A program is
+//! seen by its row of a frame, its verdict of a row after others, its count of entries and its names (specs/Rules.antt). The report of a run is that of the one-core
 //! answer over a plan of its rows, cores, history and link (specs/RunReport.antt). What words and input ask for, a text or
 //! the status that refuses, is specs/Asked.antt, and how a run ends over it specs/Ends.antt.
 //!

@@ -1,18 +1,26 @@
-ghost use Rattle.std.specs.Prelude.{◌≤◌};
+ghost use Rattle.std.specs.Prelude.{◌≡◌, ◌≤◌, length, map, IfOk};
+ghost use Rattle.std.specs.List.{range_with_len};
 ghost use Rattle.scr_log.specs.Layout.{most_slots};
+ghost use Rattle.scr_plan.specs.Counts.{delivered_count, kept_count, plan_counts};
+ghost use Rattle.scr_plan.specs.Plan.{frame_count};
+ghost use Rattle.scr_replica.specs.OneCore.{verdicts, entries};
+ghost use Rattle.scr_report.specs.Outcome.{report_of};
 ghost use Rattle.scr_run.specs.Rules.{ruled_by};
 ghost use Rattle.scr_run.specs.RunReport.{plan_text};
 ghost use Rattle.scr_run.specs.Ends.{Ends, IsText, ended};
 
-use crate::engine::{gathered_by, report_on};
 use crate::found::write_found;
 use crate::host::Host;
+use crate::names::names_of;
 use crate::status::Status;
 use crate::streaming::write_streamed;
-use scr_base::Sink;
-use scr_plan::RunPlan;
+use scr_base::{OutOfMemory, Sink};
+use scr_crew::run_threads;
+use scr_plan::{CoreCounts, RunPlan};
 use scr_program::Program;
-use scr_replica::Gate;
+use scr_replica::{Gate, Gathered, run_phases};
+use scr_report::{FrameCounts, Report};
+use std::alloc::Global;
 use std::sync::Wait;
 use std::thread::Threads;
 
@@ -51,4 +59,62 @@ pub(crate) fn write_plan<P: Program, O: Sink, G: Gate + Sync, R: Threads + Wait 
     let gathered = gathered_by::<P, G, R>(host, settings, plan, ring, threads)?;
     let report = report_on::<P>(host.alloc, plan, gathered)?;
     write_found::<P, O>(host.alloc, &report, with_verdicts, out)
+}
+
+// What the cores gather, in threads or in turns.
+fn gathered_by<P: Program, G: Gate + Sync, R: Threads + Wait + Sync>(
+    host: &Host<'_, R, G>,
+    settings: &P::Settings,
+    plan: &RunPlan,
+    ring: u32,
+    threads: bool,
+) -> Result<Gathered, OutOfMemory>
+    requires some_slots { 1 ≤ ring }
+    requires few_slots { ring ≤ most_slots }
+    ensures verdicts { IfOk result (λ it. it.verdicts ≡ verdicts (P.verdict_after settings.now) plan.now) }
+    ensures cores { IfOk result (λ it. it.cores ≡ map (plan_counts plan.now) (range_with_len 0 plan.now.cores)) }
+    ensures flows { IfOk result (λ it. it.flows ≡ entries (P.count_after settings.now) plan.now) }
+{
+    if threads {
+        run_threads::<P, G, R>(host.rt, host.alloc, settings, plan, ring, host.gate)
+    } else {
+        run_phases::<P>(host.alloc, settings, plan)
+    }
+}
+
+// What the cores gathered, as a report.
+fn report_on<P: Program>(
+    alloc: Global,
+    plan: &RunPlan,
+    gathered: Gathered,
+) -> Result<Report, OutOfMemory>
+    requires cores { gathered.cores ≡ map (plan_counts plan.now) (range_with_len 0 plan.now.cores) }
+    requires delivered { length gathered.verdicts ≡ delivered_count plan.now }
+    ensures { IfOk result (λ report. report ≡ report_of P.verdict_names gathered.verdicts
+        (frame_count plan.now)
+        (delivered_count plan.now) (kept_count plan.now)
+        gathered.cores gathered.flows) }
+{
+    let names = names_of::<P>(alloc)?;
+    let kept = kept_of(plan, &gathered.cores);
+    let Gathered {
+        verdicts,
+        cores,
+        flows,
+    } = gathered;
+    let counts = FrameCounts {
+        frames: plan.rows().len() as u32,
+        delivered: verdicts.len() as u32,
+        kept,
+    };
+    Report::of(alloc, &names, verdicts, counts, cores, flows)
+}
+
+// How many packets are kept: all but those that a core skipped.
+pub(crate) fn kept_of(plan: &RunPlan, cores: &[CoreCounts]) -> u32
+    requires cores { cores.now ≡ map (plan_counts plan.now) (range_with_len 0 plan.now.cores) }
+    ensures { result ≡ kept_count plan.now }
+{
+    let frames = plan.rows().len() as u32;
+    frames - cores[0].skipped
 }
