@@ -41,10 +41,13 @@ module _ (plan other : Plan) (same : IsSameRun plan other) where
   -- ---- the verdicts
 
   module _ (verdict_after : List Row → Row → Verdict) where
+    abbrev given_behind : (n : ℕ) → List Row → Row → Given
+    given_behind n kept row = record { number = n; verdict = verdict_after kept row }
+
     given-same : (n : ℕ) → delivers plan n ≡ true
         → option_map (given_with verdict_after other n) (row_of other n) ≡ option_map (given_with verdict_after plan n) (row_of plan n)
     given-same n delivered =
-        (λ i. option_map (λ row. record { number = n; verdict = verdict_after (kept_rows-same (n - 1) i) row }) (row_of other n))
+        (λ i. option_map (given_behind n (kept_rows-same (n - 1) i)) (row_of other n))
         ∙ ap (option_map (given_with verdict_after plan n)) (same.rows n (kept-delivered plan n delivered))
 
     given_at-same : (n : ℕ) → given_at verdict_after other n ≡ given_at verdict_after plan n

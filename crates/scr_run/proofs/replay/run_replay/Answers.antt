@@ -12,7 +12,7 @@ returns-in_err-plan g c =
     let failed = err_from_is_err_and c.from_residual.result c.from_residual.ensures.1 in
     record {
       ends = rw failed.1 (Ends-stopped_stream c.args.code _ (g.S.Source.left c.args.stream.now) _ _ g.O.Sink.written g.O.Sink.faults g.O.Sink.wants c.args.out.now _ _ _ tt
-          (StopsStream-from c.args.code (g.S.Source.left c.args.stream.now) g.S.Source.faults _ _ failed.0 _ c.in_err-plan.ensures.counts c.in_err-plan.ensures.refused failed.2));
+          (StopsStream-from c.args.code (g.S.Source.left c.args.stream.now) g.S.Source.faults _ _ _ failed.0 c.in_err-plan.ensures.counts c.in_err-plan.ensures.refused failed.2));
     }
 
 pub returns : goal.returns

@@ -18,7 +18,22 @@ returns-in_err-rows g c =
     }
 
 pub returns-in_err-write_stream : goal.returns-in_err-write_stream
-returns-in_err-write_stream g c = ?
+returns-in_err-write_stream g c =
+    let settings = c.args.settings.now in
+    let shape = c.args.shape in
+    let row_of = g.P.Program.row_of settings in
+    let rules : Rules = ruled_by row_of (g.P.Program.verdict_after settings) (g.P.Program.count_after settings) g.P.Program.verdict_names in
+    let plan = c.make-plan.result in
+    let rows = c.in_ok-rows.ensures.rows in
+    let shaped = plan-of plan (rows_of row_of rows.0) shape.cores shape.history shape.link
+    (c.make-plan.ensures.rows ∙ rows.2) c.make-plan.ensures.cores c.make-plan.ensures.history c.make-plan.ensures.link in
+    let failed = err_from_is_err_and c.from_residual-in_err-write_stream.result c.from_residual-in_err-write_stream.ensures.1 in
+    record {
+      ends = rw failed.1 (Ends-behind g.O.Sink.written g.O.Sink.faults g.O.Sink.wants _ _ _ _ _ _ _ _ _
+          (IsOfCapture-from (sprayed_text c.args.code rules shape) _ (g.S.Source.left c.args.capture.now) rows.0 rows.1 (ap (λ (p : Plan). streamed c.args.code p) shaped))
+          c.in_ok-rows.ensures.end c.in_ok-rows.ensures.calm
+          (Ends-of_making g.O.Sink.written g.O.Sink.faults g.O.Sink.wants _ _ _ _ c.in_err-write_stream.ensures.text c.in_err-write_stream.ensures.cause failed.0 failed.2));
+    }
 
 pub returns : goal.returns
 returns g c =
