@@ -1,8 +1,9 @@
-ghost use Rattle.std.specs.Prelude.{true, false, ◌≡◌};
+ghost use Rattle.std.specs.Prelude.{true, false, ◌≡◌, ◌<◌, IsTrue, Some};
 ghost use Rattle.std.specs.Io.KnownBytes.{IsAtEnd};
 ghost use Rattle.scr_chain.specs.Chains.{chained};
 ghost use Rattle.scr_pcap.specs.Generated.{generated_records};
 ghost use Rattle.scr_words.specs.Operands.{makes_load, runs};
+ghost use Rattle.scr_run.specs.Codes.{is_code};
 ghost use Rattle.scr_run.specs.Rules.{ruled_by, rules_of_one, code_of_one, stream_code};
 ghost use Rattle.scr_run.specs.RunReport.{shaped_text};
 ghost use Rattle.scr_run.specs.Asked.{IsBySettings};
@@ -211,17 +212,25 @@ fn run_command<P: Program, S: Source, O: Sink, G: Gate + Sync, R: Threads + Wait
         Command::Run => run_cores::<P, S, O, G, R>(host, settings, task.shape, true, capture, out),
         Command::Load => run_load::<P, O, G, R>(host, settings, task, out),
         Command::Spray => {
-            let Some(code) = task.code else {
-                unreachable!()
-            };
+            let code = code_in(&task);
             run_spray::<P, S, O>(host.alloc, code, settings, task.shape, capture, out)
         }
         Command::Replay => {
-            let Some(code) = task.code else {
-                unreachable!()
-            };
+            let code = code_in(&task);
             run_replay::<P, S, O, G, R>(host, code, settings, &task.shape, capture, out)
         }
+    }
+}
+
+// The number in a stream of the program of a task that has one.
+fn code_in(task: &Task) -> u8
+    requires { IsTrue (is_code task.now.code) }
+    ensures some { task.now.code ≡ Some result }
+    ensures few { result < 5 }
+{
+    match task.code {
+        Some(code) => code,
+        None => unreachable!(),
     }
 }
 

@@ -1,6 +1,6 @@
-ghost use Rattle.std.specs.Prelude.{◌≤◌};
+ghost use Rattle.std.specs.Prelude.{◌≤◌, IsTrue};
 ghost use Rattle.scr_words.specs.Limits.{most_frames, most_hosts};
-ghost use Rattle.scr_run.specs.Codes.{HasCode};
+ghost use Rattle.scr_run.specs.Codes.{has_code};
 
 use scr_words::{Command, Shape};
 
@@ -17,5 +17,5 @@ pub(crate) struct Task {
     ghost few_frames: { frames ≤ most_frames },
     ghost some_hosts: { 1 ≤ hosts },
     ghost few_hosts: { hosts ≤ most_hosts },
-    ghost has_code: { HasCode command code },
+    ghost has_code: { IsTrue (has_code command code) },
 }

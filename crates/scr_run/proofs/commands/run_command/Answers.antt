@@ -35,7 +35,7 @@ returns-in-Spray-clause-ends g c =
     let rules : Rules = ruled_by (g.P.Program.row_of settings) (g.P.Program.verdict_after settings) (g.P.Program.count_after settings) g.P.Program.verdict_names in
     let task = c.args.task in
     EndsBy-spray rules task.code task.shape (generated_records task.start task.frames task.hosts) (g.S.Source.left c.args.capture.now) _
-    g.O.Sink.written g.O.Sink.faults g.O.Sink.wants _ _ _ _ (ended c.run_spray.result) task.command _ c.in-Spray.is c.in-Some.is c.run_spray.ensures.ends
+    g.O.Sink.written g.O.Sink.faults g.O.Sink.wants _ _ _ _ (ended c.run_spray.result) task.command _ c.in-Spray.is c.code_in-code.ensures.some c.run_spray.ensures.ends
 
 pub returns-in-Replay-clause-ends : goal.returns-in-Replay-clause-ends
 returns-in-Replay-clause-ends g c =
@@ -43,4 +43,4 @@ returns-in-Replay-clause-ends g c =
     let rules : Rules = ruled_by (g.P.Program.row_of settings) (g.P.Program.verdict_after settings) (g.P.Program.count_after settings) g.P.Program.verdict_names in
     let task = c.args.task in
     EndsBy-replay rules task.code task.shape (generated_records task.start task.frames task.hosts) (g.S.Source.left c.args.capture.now) _
-    g.O.Sink.written g.O.Sink.faults g.O.Sink.wants _ _ _ _ (ended c.run_replay.result) task.command _ c.in-Replay.is c.in-Some.is c.run_replay.ensures.ends
+    g.O.Sink.written g.O.Sink.faults g.O.Sink.wants _ _ _ _ (ended c.run_replay.result) task.command _ c.in-Replay.is c.code_in-code.ensures.some c.run_replay.ensures.ends
