@@ -3,6 +3,7 @@ use Rattle.scr_pcap.specs.Generated.{generated_records}
 use Rattle.scr_run.specs.Rules.{Rules, ruled_by}
 use Rattle.scr_run.specs.Ends.{ended}
 use Rattle.scr_run.proofs.ByCommand.{EndsBy-run, EndsBy-plain, EndsBy-load, EndsBy-spray, EndsBy-replay}
+use Rattle.scr_run.proofs.Codes.{sprays-one, replays-one}
 use Rattle.scr_run.proofs.commands.run_command.Goals as goal
 
 pub returns-in-Plain-clause-ends : goal.returns-in-Plain-clause-ends
@@ -43,4 +44,10 @@ returns-in-Replay-clause-ends g c =
     let rules : Rules = ruled_by (g.P.Program.row_of settings) (g.P.Program.verdict_after settings) (g.P.Program.count_after settings) g.P.Program.verdict_names in
     let task = c.args.task in
     EndsBy-replay rules task.code task.shape (generated_records task.start task.frames task.hosts) (g.S.Source.left c.args.capture.now) _
-    g.O.Sink.written g.O.Sink.faults g.O.Sink.wants _ _ _ _ (ended c.run_replay.result) task.command _ c.in-Replay.is c.code_in-code.ensures.some c.run_replay.ensures.ends
+    g.O.Sink.written g.O.Sink.faults g.O.Sink.wants _ _ _ _ (ended c.run_replay.result) task.command _ c.in-Replay.is c.code_in-code-in-Replay.ensures.some c.run_replay.ensures.ends
+
+pub code_in-requires : goal.code_in-requires
+code_in-requires g c = sprays-one c.args.task.command c.args.task.code c.args.task.has_code c.in-Spray.is
+
+pub code_in-requires-in-Replay : goal.code_in-requires-in-Replay
+code_in-requires-in-Replay g c = replays-one c.args.task.command c.args.task.code c.args.task.has_code c.in-Replay.is
