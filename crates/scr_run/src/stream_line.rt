@@ -8,7 +8,11 @@ use scr_stream::StreamError;
 use scr_wire::WireError;
 
 /// Puts the line of a stream that is refused into a batch.
-pub(crate) fn put_stream_line<E: Sink>(batch: &mut Batch, err: &mut E, error: &StreamError) -> Result<(), SinkError>
+pub(crate) fn put_stream_line<E: Sink>(
+    batch: &mut Batch,
+    err: &mut E,
+    error: &StreamError,
+) -> Result<(), SinkError>
     ensures text { BatchesText (E.written err.old) (E.written err.new) batch.old batch.new result (stream_line error.now) }
     ensures counts { CountsError E.faults E.wants err.old err.new result }
 {
@@ -37,11 +41,20 @@ fn put_cause<E: Sink>(batch: &mut Batch, err: &mut E, cause: &[u8]) -> Result<()
 {
     batch.put_pieces(
         err,
-        &[Piece::Text(b"scr: stream: "), Piece::Text(cause), Piece::Text(b"\n")],
+        &[
+            Piece::Text(b"scr: stream: "),
+            Piece::Text(cause),
+            Piece::Text(b"\n"),
+        ],
     )
 }
 
-fn put_entry<E: Sink>(batch: &mut Batch, err: &mut E, entry: u32, cause: &[u8]) -> Result<(), SinkError>
+fn put_entry<E: Sink>(
+    batch: &mut Batch,
+    err: &mut E,
+    entry: u32,
+    cause: &[u8],
+) -> Result<(), SinkError>
     ensures text { BatchesText (E.written err.old) (E.written err.new) batch.old batch.new result (entry_line entry cause.now) }
     ensures counts { CountsError E.faults E.wants err.old err.new result }
 {
@@ -57,7 +70,12 @@ fn put_entry<E: Sink>(batch: &mut Batch, err: &mut E, entry: u32, cause: &[u8]) 
     )
 }
 
-fn put_entry_message<E: Sink>(batch: &mut Batch, err: &mut E, entry: u32, cause: WireError) -> Result<(), SinkError>
+fn put_entry_message<E: Sink>(
+    batch: &mut Batch,
+    err: &mut E,
+    entry: u32,
+    cause: WireError,
+) -> Result<(), SinkError>
     ensures text { BatchesText (E.written err.old) (E.written err.new) batch.old batch.new result (entry_message_line entry cause) }
     ensures counts { CountsError E.faults E.wants err.old err.new result }
 {
