@@ -1,7 +1,8 @@
-use Rattle.std.proofs.Common.{ap, ◌∙◌}
+use Rattle.std.proofs.Common.{Ok, refl, ap, ◌∙◌}
 use Rattle.std.proofs.lemmas.Result.{err_from_is_err_and}
 use Rattle.scr_plan.specs.Plan.{Plan}
 use Rattle.scr_stream.specs.Streamed.{streamed}
+use Rattle.scr_run.specs.declared.status.Status.TheVariants.{Done}
 use Rattle.scr_run.specs.Rules.{Rules, ruled_by}
 use Rattle.scr_run.specs.RunReport.{rows_of, sprayed_text}
 use Rattle.scr_run.proofs.Ending.{Ends-behind, Ends-stopped}
@@ -11,7 +12,7 @@ use Rattle.scr_run.proofs.spray.run_spray.Goals as goal
 
 pub returns-in_err-rows : goal.returns-in_err-rows
 returns-in_err-rows g c =
-    let failed = err_from_is_err_and c.from_residual-in_err-rows.result c.from_residual-in_err-rows.ensures.1 in
+    let failed = err_from_is_err_and c.from_residual.result c.from_residual.ensures.1 in
     record {
       ends = rw failed.1 (rw failed.2 (Ends-stopped _ (g.S.Source.left c.args.capture.now) _ _ g.O.Sink.written g.O.Sink.faults g.O.Sink.wants c.args.out.now _ _ _ tt
           c.in_err-rows.ensures.stop));
@@ -49,5 +50,5 @@ returns g c =
       ends = Ends-behind g.O.Sink.written g.O.Sink.faults g.O.Sink.wants _ _ _ _ _ _ _ _ _
           (IsOfCapture-from (sprayed_text c.args.code rules shape) _ (g.S.Source.left c.args.capture.now) rows.0 rows.1 (ap (λ (p : Plan). streamed c.args.code p) shaped))
           c.in_ok-rows.ensures.end c.in_ok-rows.ensures.calm
-          (Ends-of_making g.O.Sink.written g.O.Sink.faults g.O.Sink.wants _ _ _ _ c.in_ok-write_stream.ensures.text c.in_ok-write_stream.ensures.cause _ refl);
+          (Ends-of_making g.O.Sink.written g.O.Sink.faults g.O.Sink.wants _ _ _ (Ok tt) c.in_ok-write_stream.ensures.text c.in_ok-write_stream.ensures.cause Done refl);
     }
