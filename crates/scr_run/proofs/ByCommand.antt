@@ -1,14 +1,16 @@
 -- How the run of a command ends, from how the run of its kind ended.
 use Rattle.std.proofs.Common.{◌≡◌, ℕ, true, false, List, Option, Some, MatchOption, refl, sym, subst}
+use Rattle.scr_pcap.specs.Generated.{generated_records}
 use Rattle.scr_pcap.specs.Records.{Record}
 use Rattle.scr_words.specs.declared.settings.Command.{Command}
 use Rattle.scr_words.specs.declared.settings.Command.TheVariants.{Run, Plain, Load, Spray, Replay}
+use Rattle.scr_words.specs.declared.settings.RunSettings.{RunSettings}
 use Rattle.scr_words.specs.declared.settings.Shape.{Shape}
 use Rattle.scr_words.specs.Operands.{makes_load}
 use Rattle.scr_run.specs.declared.status.Status.{Status}
-use Rattle.scr_run.specs.Rules.{Rules}
+use Rattle.scr_run.specs.Rules.{Rules, rules_of, stream_code}
 use Rattle.scr_run.specs.RunReport.{plan_text, shaped_text, plain_text, sprayed_text}
-use Rattle.scr_run.specs.Asked.{IsOfCapture, IsOfStream, IsByCommand}
+use Rattle.scr_run.specs.Asked.{IsOfCapture, IsOfStream, IsByCommand, IsBySettings}
 use Rattle.scr_run.specs.Ends.{Ends, IsText}
 use Rattle.scr_run.proofs.Ending.{Ends-through, Ends-behind}
 
@@ -57,3 +59,17 @@ module _ (rules : Rules) (code : Option ℕ) (shape : Shape) (made : List Record
       AtEnd (makes_load Replay ≡ false → AtEnd) written old new
       (λ asked of. subst (λ (k : Option ℕ). MatchOption k ⊥ (λ n. IsOfStream n (plan_text rules true) left asked)) (sym has) of)
       (λ any. refl) (λ end same. end) failed_before failed faults wants status ends)
+
+-- what is asked for by the settings is asked for by their rules and their number in a stream
+pub Ends-by_settings : (settings : RunSettings) (rules : Rules) (code : Option ℕ) (left : Option (List ℕ)) (Takes AtEnd : Type 0)
+    {O : Type 0} (written : O → Option (List ℕ)) (faults wants : O → ℕ) (old new : O) (failed_before failed : ℕ) (status : Status)
+    → rules_of settings.program ≡ rules → code ≡ stream_code settings.program
+    → Ends (IsByCommand rules code settings.shape (generated_records settings.start settings.frames settings.hosts) left settings.command) Takes AtEnd
+    written failed_before failed faults wants old new status
+    → Ends (IsBySettings settings left) Takes AtEnd written failed_before failed faults wants old new status
+Ends-by_settings settings rules code left Takes AtEnd written faults wants old new failed_before failed status is has ends =
+    let made = generated_records settings.start settings.frames settings.hosts in
+    subst (λ (k : Option ℕ). Ends (IsByCommand (rules_of settings.program) k settings.shape made left settings.command) Takes AtEnd
+    written failed_before failed faults wants old new status) has
+    (subst (λ (r : Rules). Ends (IsByCommand r code settings.shape made left settings.command) Takes AtEnd
+    written failed_before failed faults wants old new status) (sym is) ends)

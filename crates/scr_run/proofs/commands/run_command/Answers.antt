@@ -46,8 +46,8 @@ returns-in-Replay-clause-ends g c =
     EndsBy-replay rules task.code task.shape (generated_records task.start task.frames task.hosts) (g.S.Source.left c.args.capture.now) _
     g.O.Sink.written g.O.Sink.faults g.O.Sink.wants _ _ _ _ (ended c.run_replay.result) task.command _ c.in-Replay.is c.code_in-code-in-Replay.ensures.some c.run_replay.ensures.ends
 
-pub code_in-requires : goal.code_in-requires
-code_in-requires g c = sprays-one c.args.task.command c.args.task.code c.args.task.has_code c.in-Spray.is
+pub code_in-code-requires : goal.code_in-code-requires
+code_in-code-requires g c = sprays-one c.args.task.command c.args.task.code c.args.task.has_code c.in-Spray.is
 
-pub code_in-requires-in-Replay : goal.code_in-requires-in-Replay
-code_in-requires-in-Replay g c = replays-one c.args.task.command c.args.task.code c.args.task.has_code c.in-Replay.is
+pub code_in-code-requires-in-Replay : goal.code_in-code-requires-in-Replay
+code_in-code-requires-in-Replay g c = replays-one c.args.task.command c.args.task.code c.args.task.has_code c.in-Replay.is
