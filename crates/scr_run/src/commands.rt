@@ -39,7 +39,7 @@ pub(crate) fn run_chosen<S: Source, O: Sink, G: Gate + Sync, R: Threads + Wait +
     capture: &mut S,
     out: &mut O,
 ) -> Result<(), Status>
-    requires { runs chosen.command chosen.program ≡ true }
+    requires known { runs chosen.command chosen.program ≡ true }
     ensures ends { Ends (IsBySettings chosen (S.left capture.old)) (makes_load chosen.command ≡ false) (makes_load chosen.command ≡ false → IsAtEnd (S.left capture.new))
         O.written (S.faults capture.old) (S.faults capture.new) O.faults O.wants out.old out.new (ended result) }
     ensures unread { makes_load chosen.command ≡ true → capture.new ≡ capture.old }

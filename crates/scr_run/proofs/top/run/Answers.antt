@@ -18,5 +18,5 @@ pub returns-clause-unread : goal.returns-clause-unread
 returns-clause-unread g c = λ none.
     without-input c.args.words.now c.in_ok-chosen.chosen c.in_ok-chosen.ensures.accepted _ c.run_chosen.ensures.unread none
 
-pub run_chosen-requires : goal.run_chosen-requires
-run_chosen-requires g c κs within = runs-accepted c.args.words.now c.in_ok-chosen.chosen c.in_ok-chosen.ensures.accepted
+pub run_chosen-requires-clause-known : goal.run_chosen-requires-clause-known
+run_chosen-requires-clause-known g c κs within = runs-accepted c.args.words.now c.in_ok-chosen.chosen c.in_ok-chosen.ensures.accepted
