@@ -1,9 +1,8 @@
 -- How a run that writes a stream, or reads one, ends; and which status the reading of a stream asks for.
-use Rattle.std.proofs.Common.{◌≡◌, ◌⊎◌, ℕ, List, Option, Some, None, Result, Ok, Err, IfSome, MatchResult, refl, sym, ap, ◌∙◌, subst, inl, inr}
-use Rattle.scr_base.specs.Causes.{counted, CountsError}
+use Rattle.std.proofs.Common.{◌≡◌, ℕ, List, Option, Some, None, Result, Ok, Err, IfSome, MatchResult, refl, sym, ap, ◌∙◌, subst, inl, inr}
+use Rattle.scr_base.specs.Causes.{counted}
 use Rattle.scr_base.specs.Streams.{WritesText}
 use Rattle.scr_base.specs.declared.sink.SinkError.{SinkError}
-use Rattle.scr_base.specs.declared.sink.SinkError.TheVariants as sink
 use Rattle.scr_plan.specs.Plan.{Plan}
 use Rattle.scr_stream.specs.Causes.{CountsErrorOrNothing}
 use Rattle.scr_stream.specs.Reading as stream
@@ -14,7 +13,7 @@ use Rattle.scr_stream.specs.declared.error.StreamError.TheVariants as fault
 use Rattle.scr_run.specs.declared.status.Status.{Status}
 use Rattle.scr_run.specs.declared.status.Status.TheVariants.{Done, Words, Capture, ReadFault, WriteFault, OutOfMemory, TooMany, Pcapng, Stream}
 use Rattle.scr_run.specs.Asked.{IsOfStream, asked_by_plan, status_of_stream}
-use Rattle.scr_run.specs.Ends.{Ends, IsText, IsUnlessOutOfMemory, Stands, HasStreamFault, IsStreamStop, StopsStream, reads_behind, status_of_sink}
+use Rattle.scr_run.specs.Ends.{Ends, IsText, IsUnlessOutOfMemory, Stands, IsStreamStop, StopsStream, reads_behind, status_of_sink}
 use Rattle.scr_run.proofs.Ending.{Ends-of_write, status_asked, status-is}
 
 -- the writing of a text by a call that takes memory of its own first

@@ -1,7 +1,7 @@
 -- The report of a run, from the records of its capture or the plan of its stream: the one-core answer over the packets that delivered frames
 -- carry, and the counters. The lines of cores depend on cores, history and link; where no frame comes later, all else
 -- depends on history and link alone.
-use Rattle.std.specs.Prelude.{ℕ, Bool, true, false, List, [], map}
+use Rattle.std.specs.Prelude.{ℕ, Bool, true, List, [], map}
 use Rattle.std.specs.List.{range_with_len}
 use Rattle.scr_base.specs.declared.row.Row.{Row}
 use Rattle.scr_frame.specs.declared.parsed.Parsed.{Parsed}

@@ -1,4 +1,4 @@
-use Rattle.std.proofs.Common.{◌≡◌, ◌<◌, Bool, true, List, All, length, ap, ◌∙◌, sym, subst, refl}
+use Rattle.std.proofs.Common.{◌≡◌, ◌<◌, Bool, List, All, length, ap, ◌∙◌, sym, subst, refl}
 use Rattle.scr_plan.specs.declared.given.Given.{Given}
 use Rattle.scr_plan.specs.Plan.{frame_count}
 use Rattle.scr_plan.specs.Counts.{delivered_count, kept_count}
