@@ -8,9 +8,9 @@ ghost use Rattle.scr_run.specs.Rules.{ruled_by};
 ghost use Rattle.scr_run.specs.RunReport.{outcome_of};
 ghost use Rattle.scr_run.specs.Ends.{Ends, IsText, ended};
 
-use crate::engine::kept_of;
 use crate::host::Host;
 use crate::names::names_of;
+use crate::planned::kept_of;
 use crate::status::Status;
 use scr_base::Sink;
 use scr_crew::{Streamed, run_streamed};

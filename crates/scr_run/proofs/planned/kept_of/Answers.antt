@@ -1,6 +1,6 @@
 use Rattle.std.proofs.Common.{length, ap, arith}
 use Rattle.scr_run.proofs.Counts.{first-core}
-use Rattle.scr_run.proofs.engine.kept_of.Goals as goal
+use Rattle.scr_run.proofs.planned.kept_of.Goals as goal
 
 pub overflow_sub-result : goal.overflow_sub-result
 overflow_sub-result c =
