@@ -52,11 +52,14 @@ fn verdicts_of<P: Program, R: Wait>(
     ensures { IfOk result (λ it. it.items ≡ course (P.verdict_after settings.now) plan.now 0) }
 {
     let (logs, mut free) = Logs::make(alloc, plan, 1_024)?;
-    let (mut feed, mut ends) = Feed::make(alloc, plan, 1_024)?;
+    let (mut feed, ends) = Feed::make(alloc, plan, 1_024)?;
     feed_all(rt, &mut feed)?;
-    ends.truncate(1);
-    let lane = ends.pop().ok_or("a lane")?;
-    let pass = claim(&logs, &mut free, 0).ok_or("a pass")?;
+    let Some(lane) = ends.into_iter().next() else {
+        return Err("a lane".into());
+    };
+    let Some(pass) = claim(&logs, &mut free, 0) else {
+        return Err("a pass".into());
+    };
     match run_core::<P, OpenGate, R>(rt, alloc, settings, lane, pass, &logs, &OpenGate) {
         Ok(kept) => Ok(kept.verdicts),
         Err(_) => Err("a core that is not halted".into()),

@@ -5,24 +5,24 @@ use crate::joining::Tallies;
 use crate::taking::Taking;
 use crate::workers::{Crew, claim_all};
 use crate::{OpenGate, RunStop};
-use scr_ddos::{Ddos, DdosSettings};
 use scr_feed::Feed;
 use scr_log::Logs;
 use scr_plan::{Given, RunPlan};
+use scr_program::Program;
 use std::alloc::Global;
 use std::sync::Wait;
 use std::thread::Threads;
 
 /// All cores but the last in threads, as where the last thread can't be started.
-pub fn without_the_last<R: Threads + Wait + Sync>(
+pub fn without_the_last<P: Program, R: Threads + Wait + Sync>(
     rt: &R,
     alloc: Global,
-    settings: &DdosSettings,
+    settings: &P::Settings,
     plan: &RunPlan,
 ) -> Result<Option<Tallies>, RunStop> {
     let (logs, mut free) = Logs::make(alloc, plan, 1)?;
     let (feed, ends) = Feed::make(alloc, plan, 1_024)?;
-    let crew = claim_all::<Ddos>(alloc, settings, plan, &logs, &mut free, ends)?;
+    let crew = claim_all::<P>(alloc, settings, plan, &logs, &mut free, ends)?;
     let Some(
         Crew {
             mut workers,
@@ -42,7 +42,7 @@ pub fn without_the_last<R: Threads + Wait + Sync>(
         taking,
         spent,
     };
-    let (tallies, _verdicts) = run_crew::<Ddos, OpenGate, Vec<Given>, (), R>(
+    let (tallies, _verdicts) = run_crew::<P, OpenGate, Vec<Given>, (), R>(
         rt,
         alloc,
         settings,
