@@ -34,14 +34,31 @@ def best_times(calls, capture, tries=TRIES):
 
 
 def peak_memory(call, capture):
-    """KiB at the most. The report is longer than a pipe holds, so once its first byte has come the program waits with
-    all its memory taken. (What wait tells counts this script's own memory, which the program has until it is loaded.)"""
+    """KiB at the most, asked while parts of the report come. The report is longer than a pipe holds, so the program can't end
+    before the last is asked for. (What wait tells counts this script's own memory, which the program has until it is loaded.)"""
+    peak = 0
     with open(capture, "rb") as file, subprocess.Popen(call, stdin=file, stdout=subprocess.PIPE) as process:
-        process.stdout.read(1)
-        with open(f"/proc/{process.pid}/status") as status:
-            peak = next(int(line.split()[1]) for line in status if line.startswith("VmHWM"))
-        process.stdout.read()
+        while process.stdout.read1(1 << 15):
+            with open(f"/proc/{process.pid}/status") as status:
+                peak = max([peak, *(int(line.split()[1]) for line in status if line.startswith("VmHWM"))])
     return peak
+
+
+def seconds_to_lines(call, capture):
+    """The seconds until the first part of the report has come, and until the last has."""
+    with open(capture, "rb") as file:
+        begin = time.perf_counter()
+        with subprocess.Popen(call, stdin=file, stdout=subprocess.PIPE) as process:
+            process.stdout.read1(1)
+            first = time.perf_counter() - begin
+            while process.stdout.read1(1 << 20):
+                pass
+            return first, time.perf_counter() - begin
+
+
+def best_lines(call, capture, tries):
+    """The least of several runs, each by itself."""
+    return [min(of_all) for of_all in zip(*(seconds_to_lines(call, capture) for _ in range(tries)))]
 
 
 def free_memory():

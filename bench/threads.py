@@ -3,7 +3,7 @@ import collections
 import os
 
 from made import connected, usual, write_capture
-from measuring import best_times, peak_memory, report_of
+from measuring import best_lines, best_times, peak_memory, report_of
 
 FRAMES, TRIES = 1_000_000, 3
 PROGRAMS = [("ddos", usual), ("conn", connected)]
@@ -11,7 +11,8 @@ CORES = [1, 2, 4, 16]
 # What a run may take, as times plain Rust with as many cores.
 MOST = {1: 2, 2: 2, 4: 2, 16: 3}
 HEAD = ["program", "cores", "scr, ns each", "Rust, ns each", "scr / Rust", "threads=no, ns each", "yes / no",
-        "scr, ns of the processor", "Rust, ns of the processor", "threads=no, ns of the processor", "scr, peak MB"]
+        "scr, ns of the processor", "Rust, ns of the processor", "threads=no, ns of the processor", "scr, peak MB",
+        "first line, ms", "last, ms", "threads=no, first line, ms"]
 
 Figure = collections.namedtuple("Figure", "program cores threads phases rust")
 
@@ -30,7 +31,9 @@ def threads(program, baseline, folder):
                 print(f"run {' '.join(words)}: the reports DIFFER")
                 same = False
             whole, processor = best_times(calls, path, TRIES)
-            rows.append([name, str(cores), *cells_of(cores, whole, processor), f"{peak_memory(mine, path) * 1024 / 1e6:,.0f}"])
+            lines = [*best_lines(mine, path, TRIES), best_lines(phases, path, TRIES)[0]]
+            rows.append([name, str(cores), *cells_of(cores, whole, processor), f"{peak_memory(mine, path) * 1024 / 1e6:,.0f}",
+                         *(f"{1e3 * seconds:,.0f}" for seconds in lines)])
             figures.append(Figure(name, cores, *(1e9 * whole[which] / FRAMES for which in (0, 2, 1))))
         os.remove(path)
     return rows, same, figures

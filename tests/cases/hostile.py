@@ -5,6 +5,7 @@ from running import compare, difference, outcome
 from traffic import capture as made, link
 
 from .known import FOUR
+from .sprayed import REPLAY, STREAM
 
 # Four frames, and four of which the second is lost. Then a long capture over a link that loses, repeats and delays.
 SHORT = ("program=ddos threshold=2", "program=ddos threshold=2 cores=2 history=1 drop=2")
@@ -14,15 +15,18 @@ DAMAGED = 500
 
 
 def calls():
-    """Calls over a short and a long capture, of each command, with the name that tells them."""
+    """Calls over a short and a long capture and over a stream, of each command, with the name that tells them."""
     data = made(11, 3_000, 300)
     for words in SHORT:
         for threads in THREADS:
             yield f"run {words} {threads}", FOUR
     yield f"plain {SHORT[0]}", FOUR
     yield f"load {SHORT[1]} frames=9", b""
+    yield f"spray {SHORT[1]}", FOUR
+    yield f"spray {LONG}", data
     for threads in THREADS:
         yield f"run {LONG} {threads}", data
+        yield f"{REPLAY} {threads}", STREAM
     yield "plain program=conn", data
     yield "load program=heavy cores=3 frames=3000", b""
 

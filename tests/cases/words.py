@@ -10,9 +10,11 @@ from traffic import PAIRS
 from .known import FOUR, FOUR_REPORT, SOURCE
 
 COMMANDS = ("run", "plain", "load")
+STREAMED = ("spray", "replay")
 OWN = {"ddos": ["threshold"], "heavy": ["bytes"], "bucket": ["rate", "burst"], "knock": ["ports"], "conn": ["idle"]}
-OF_CORES = ["cores", "history", "drop", "repeat", "delay", "ring", "threads"]
-OF_LOAD = ["start", "frames", "hosts"]
+SPRAYING, RUNNING = ["cores", "history", "drop", "repeat", "delay"], ["ring", "threads"]
+OF_CORES, OF_LOAD = [*SPRAYING, *RUNNING], ["start", "frames", "hosts"]
+TAKEN = {"run": OF_CORES, "plain": [], "load": OF_CORES + OF_LOAD, "spray": SPRAYING, "replay": RUNNING}
 SAMPLE = {"flows": "7", "cores": "2", "history": "1", "drop": "3", "repeat": "2", "delay": "1:1", "ring": "9", "threads": "no",
           "start": "1", "frames": "3", "hosts": "2", "threshold": "1", "bytes": "1", "rate": "1", "burst": "1", "ports": "1,2,3", "idle": "1",
           "first": "ddos", "second": "heavy", "table": "0:*>0/P"}
@@ -27,8 +29,31 @@ runs program=ddos                           | word 1: Command
 ru program=ddos                             | word 1: Command
 run=1 program=ddos                          | word 1: Command
 program=ddos run                            | word 1: Command
-spray program=ddos                          | word 1: Command
-replay program=ddos                         | word 1: Command
+sprays program=ddos                         | word 1: Command
+Replay program=ddos                         | word 1: Command
+spray                                       | word 2: Missing
+replay                                      | word 2: Missing
+spray rate=1                                | word 3: Missing
+spray rate=1 threshold=1 bytes=1 ports=1,2,3 idle=1 burst=1 flows=1 | word 9: Missing
+replay ring=1 threads=no threshold=1        | word 5: Missing
+spray program=chain                         | word 2: Program
+spray program=table                         | word 2: Program
+replay program=chain                        | word 2: Program
+replay program=table                        | word 2: Program
+spray rate=1 program=chain                  | word 3: Program
+replay rate=x program=table                 | word 2: Value
+spray program=chain first=ddos              | word 2: Program
+spray program=ddos program=chain            | word 3: Twice
+spray first=ddos                            | word 2: NotHere
+replay second=ddos                          | word 2: NotHere
+spray table=0:*>0/P                         | word 2: NotHere
+replay program=ddos first=ddos              | word 3: NotHere
+spray program=ddos rate=1                   | word 3: NotHere
+replay rate=1 program=ddos                  | word 2: NotHere
+spray program=ddos ring=0                   | word 3: NotHere
+replay program=ddos drop=0                  | word 3: NotHere
+spray cores=17 threads=x                    | word 2: Range
+replay ring=0 cores=17                      | word 2: Range
 --help                                      | word 1: Command
 -h                                          | word 1: Command
 run                                         | word 2: Missing
@@ -249,9 +274,9 @@ def refused_words(program):
 
 def foreign_operands(program):
     """Each operand with each command and each program that doesn't take it, and with each that does."""
-    for command in COMMANDS:
+    for command in (*COMMANDS, *STREAMED):
         for name in OF_CORES + OF_LOAD:
-            taken = command == "load" or command == "run" and name in OF_CORES
+            taken = name in TAKEN[command]
             words = f"{command} program=ddos {name}={SAMPLE[name]}"
             known = None if taken else fault(1, "word 3: NotHere")
             yield f"{command} with {name}", compare(program, words, FOUR, known)
@@ -387,9 +412,10 @@ def of_program(draw, chosen):
 
 def any_words(draw):
     """A command line whose words fit more often than not."""
-    command, chosen = draw.choice(COMMANDS), draw.choice([*OWN, "chain", "chain", "table"])
+    command = draw.choice([*COMMANDS, "spray"])
+    chosen = draw.choice([*OWN, *(["chain", "chain", "table"] if command != "spray" or draw.random() < 0.2 else [])])
     needed, own = of_program(draw, chosen)
-    own = ["flows", *own, *(OF_CORES if command != "plain" else []), *(OF_LOAD if command == "load" else [])]
+    own = ["flows", *own, *TAKEN[command]]
     names = draw.sample(own, draw.randrange(min(5, len(own))))
     words = [word for word in [f"program={chosen}", *needed] if draw.random() < 0.93]
     words += [f"{name}={SAMPLE[name]}" if draw.random() < 0.7 else any_word(draw, [name]) for name in names]

@@ -8,8 +8,8 @@ import model
 
 words = [os.fsencode(word) for word in sys.argv[1:]]
 found = model.answer(words)
-if found.status == 2:
-    # Without a capture no other call ends so. What it wants is read only now, since `load` and refused words read nothing.
+if found.status in (2, 8):
+    # Without a capture or a stream no other call ends so. It is read only now, since `load` and refused words read nothing.
     found = model.answer(words, sys.stdin.buffer.read())
 sys.stdout.buffer.write(found.out)
 sys.stderr.buffer.write(found.err)

@@ -6,8 +6,10 @@ from . import lists, tables
 from .folds import FIRSTS, NAMES, SECONDS
 from .programs import PROGRAMS
 
-COMMANDS = {b"run": "run", b"plain": "plain", b"load": "load"}
-ALL, CORES, LOAD = ("run", "plain", "load"), ("run", "load"), ("load",)
+COMMANDS = {name.encode(): name for name in ("run", "plain", "load", "spray", "replay")}
+# Who reads or writes a stream, who sprays frames over cores, who runs cores, and who makes its capture.
+STREAM, SPRAYING, CORES, LOAD = ("spray", "replay"), ("run", "load", "spray"), ("run", "load", "replay"), ("load",)
+ALL = tuple(COMMANDS.values())
 NUMBER = rb"[0-9]+"
 # A number may have any count of digits; some versions of Python read no more than some thousands unless told to.
 if hasattr(sys, "set_int_max_str_digits"):
@@ -15,8 +17,8 @@ if hasattr(sys, "set_int_max_str_digits"):
 # The operands: the commands or the program that take them, and a number's least, greatest and default. Some are required.
 OPERANDS = {
     "program": (ALL, None), "flows": (ALL, (1, 65_536, 4_096)),
-    "cores": (CORES, (1, 16, 1)), "history": (CORES, (0, 64, None)),
-    "drop": (CORES, None), "repeat": (CORES, None), "delay": (CORES, None),
+    "cores": (SPRAYING, (1, 16, 1)), "history": (SPRAYING, (0, 64, None)),
+    "drop": (SPRAYING, None), "repeat": (SPRAYING, None), "delay": (SPRAYING, None),
     "ring": (CORES, (1, 4_096, 1_024)), "threads": (CORES, None),
     "start": (LOAD, (0, 2**64 - 1, 0)), "frames": (LOAD, (0, 1_000_000, 1_000)), "hosts": (LOAD, (1, 65_536, 16)),
     "threshold": ("ddos", (0, 2**32 - 1, 1_000)), "bytes": ("heavy", (1, 10**12, 1_000_000)),
@@ -24,7 +26,7 @@ OPERANDS = {
     "ports": ("knock", (1, 65_535, None)), "idle": ("conn", (1, 10**13, 60_000_000)),
     "first": ("chain", None), "second": ("chain", None), "table": ("table", None),
 }
-PROGRAM_NAMES = {"program": NAMES, "first": FIRSTS, "second": SECONDS}
+CHAINED = {"first": FIRSTS, "second": SECONDS}
 REQUIRED = {"chain": ("program", "first", "second"), "table": ("program", "table")}
 
 
@@ -53,14 +55,15 @@ def settings(words):
         raise Refused(1, "NoCommand")
     if words[0] not in COMMANDS:
         raise Refused(1, "Command")
-    command, programs = COMMANDS[words[0]], taken_programs(words)
+    command = COMMANDS[words[0]]
+    programs = taken_programs(command, words)
     given = {}
     for number, word in enumerate(words[1:], 2):
         cause = why_not_named(word, command, programs, given)
         if cause:
             raise Refused(number, cause)
         name, _, text = word.partition(b"=")
-        value, cause = value_of(name.decode(), text, given)
+        value, cause = value_of(command, name.decode(), text, given)
         if cause:
             raise Refused(number, cause)
         given[name.decode()] = value
@@ -75,11 +78,16 @@ def first_value(words, name):
     return next(values, None)
 
 
-def taken_programs(words):
+def names_for(command):
+    """The names of the programs that a command knows: a stream is of one of the five."""
+    return tuple(PROGRAMS) if command in STREAM else NAMES
+
+
+def taken_programs(command, words):
     """The programs whose operands are taken: the chosen one and, with a chain, its two; or all where none is known."""
     chosen, first, second = (first_value(words, name) for name in (b"program", b"first", b"second"))
-    if chosen not in NAMES:
-        return NAMES
+    if chosen not in names_for(command):
+        return names_for(command)
     if chosen != "chain":
         return (chosen,)
     return (chosen, first, second) if first in FIRSTS and second in SECONDS else (chosen, *PROGRAMS)
@@ -98,10 +106,10 @@ def why_not_named(word, command, programs, given):
     return "Twice" if name in given else None
 
 
-def value_of(name, text, given):
+def value_of(command, name, text, given):
     """The value that an operand's text spells, and why it is refused behind the values that are given."""
-    if name in PROGRAM_NAMES:
-        return program_of(name, text.decode(), given)
+    if name in ("program", *CHAINED):
+        return program_of(name, CHAINED.get(name) or names_for(command), text.decode(), given)
     if name == "threads":
         return text, None if text in (b"yes", b"no") else "Value"
     if name in ("drop", "repeat"):
@@ -119,9 +127,9 @@ def value_of(name, text, given):
     return numbers if name == "ports" else numbers[0], cause
 
 
-def program_of(name, text, given):
+def program_of(name, names, text, given):
     """The name of a program, and why it is refused: the two of a chain differ."""
-    if text not in PROGRAM_NAMES[name]:
+    if text not in names:
         return None, "Program"
     is_same = name != "program" and text in (given.get("first"), given.get("second"))
     return text, "Same" if is_same else None
@@ -132,7 +140,9 @@ def defaults(command, programs, cores):
     taken = {name: numbers for name, (takers, numbers) in OPERANDS.items() if command in takers or takers in programs}
     values = {name: numbers[2] for name, numbers in taken.items() if numbers}
     if "cores" in taken:
-        values.update(history=cores - 1, drop=[], repeat=[], delay=[], threads=b"yes")
+        values.update(history=cores - 1, drop=[], repeat=[], delay=[])
+    if "threads" in taken:
+        values["threads"] = b"yes"
     if "ports" in taken:
         values["ports"] = [7_000, 8_000, 9_000]
     return values

@@ -1,3 +1,11 @@
 mod Coming
 mod Answered
 mod NewEnds
+mod Courses
+mod TakenOnce
+mod Totals
+mod Writing
+mod Turns
+mod Handing
+mod Named
+mod NewArrivals

@@ -1,4 +1,10 @@
 pub mod Cores
 pub mod Workers
 pub mod Answers
+pub mod Verdicts
+pub mod Streamed
+pub mod Takings
+pub mod Takers
+pub mod Trying
+pub mod Lines
 pub mod Threads

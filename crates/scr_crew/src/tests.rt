@@ -14,8 +14,11 @@ use std::sync::Wait;
 use std::test::Fail;
 use std::thread::Threads;
 
+mod early;
+mod leaving;
 mod meeting;
 mod refusing;
+mod streaming;
 
 use meeting::Meeting;
 use refusing::without_the_last;
@@ -166,7 +169,7 @@ fn one_core_goes_through_alone(rt: HostRuntime) -> Result<(), Fail> {
 fn a_core_without_a_thread_halts_the_others(rt: HostRuntime) -> Result<(), Fail> {
     for case in [FOUR, Case { cores: 1, ..FOUR }, Case { cores: 4, ..FOUR }] {
         let plan = plan_of(rt.alloc(), &case)?;
-        let gathered = without_the_last(&rt, rt.alloc(), &settings(), &plan)?;
+        let gathered = without_the_last::<Ddos, _>(&rt, rt.alloc(), &settings(), &plan)?;
         assert!(rt; gathered.is_none(), "it goes by phases");
     }
     Ok(())

@@ -12,7 +12,11 @@ pub mod Taken
 pub mod TakenInOrder
 pub mod Deciding
 pub mod Saying
+pub mod Looking
+pub mod AtHand
+pub mod Keeping
 pub mod WholeTurns
+pub mod Asking
 pub mod Going
 pub mod Undivided
 pub mod Counted

@@ -7,6 +7,7 @@ use Rattle.scr_plan.specs.declared.counting.CoreCounts.{CoreCounts}
 use Rattle.scr_plan.specs.declared.given.Given.{Given}
 use Rattle.scr_plan.specs.Plan.{Plan}
 use Rattle.scr_plan.specs.Counts.{plan_counts}
+use Rattle.scr_replica.specs.declared.gathered.CoreTally.{CoreTally}
 use Rattle.scr_replica.specs.OneCore.{course, verdicts, entries}
 
 pub record CoreAnswer : Type 0 where
@@ -23,6 +24,10 @@ pub record Answer : Type 0 where
 -- the verdicts of each core, in order
 abbrev pub courses : (List Row → Row → Verdict) → Plan → List (List Given)
 courses verdict_after plan = map (course verdict_after plan) (range_with_len 0 plan.cores)
+
+-- what a core should answer beside its verdicts: its counts, and the one-core entries
+abbrev pub core_tally : (count_after : List Row → ℕ) → Plan → (core : ℕ) → CoreTally
+core_tally count_after plan core = record { core = core; counts = plan_counts plan core; flows = entries count_after plan }
 
 module _ (verdict_after : List Row → Row → Verdict) (count_after : List Row → ℕ) (plan : Plan) where
   -- what a core should answer: the one-core verdicts at its frames, its counts, and the one-core entries

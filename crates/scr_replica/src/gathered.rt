@@ -1,6 +1,17 @@
 use scr_plan::{CoreCounts, Given};
 use std::marker::Model;
 
+/// What one core makes of a run, beside its verdicts.
+#[derive(Clone, Copy, Debug, PartialEq, Eq)]
+pub struct CoreTally {
+    /// The number of the core, from 0.
+    pub core: u32,
+    /// What it did.
+    pub counts: CoreCounts,
+    /// The entries of its last state.
+    pub flows: u64,
+}
+
 /// What one core makes of a run.
 #[derive(Debug, Drop)]
 pub struct CoreResult {

@@ -10,6 +10,7 @@ ghost use Rattle.scr_replica.specs.Heard.{told_row, decided_with, HasHeard};
 
 use scr_base::Row;
 use scr_wire::{MessageKind, Packet, decode};
+use std::mem;
 
 /// The messages of a lane, as far as a replica took them: the last one, and what all of them decide.
 #[derive(Drop)]
@@ -25,11 +26,12 @@ pub(crate) struct Heard {
 // What the message is that a packet spells, and its number.
 #[inline]
 fn said_by(packet: &Packet) -> (MessageKind, u32)
+    requires { (message : Message) × Spells message packet.now }
     ensures { (message : Message) → Spells message packet.now → (result.0 ≡ kind_of message) × (result.1 ≡ number_of message) }
 {
     match decode(packet.bytes()) {
         Ok(view) => (view.kind(), view.number()),
-        Err(_) => (MessageKind::End, 0),
+        Err(_) => unreachable!(),
     }
 }
 
@@ -119,16 +121,17 @@ impl Heard {
         self.whole
     }
 
-    /// Takes the next message of the lane.
+    /// Takes the next message of the lane, and hands back the packet of the one before.
     #[inline]
-    pub(crate) fn take(&mut self, packet: Packet, history: u32)
+    pub(crate) fn take(&mut self, packet: Packet, history: u32) -> Option<Packet>
+        requires { (message : Message) × Spells message packet }
         ensures { (plan : Plan) (core m : ℕ) → IsPlan plan → plan.history ≡ history → SpellsMessage (route plan core) m packet → HasHeard plan core m self.old → HasHeard plan core (m + 1) self.new }
     {
         let (kind, number) = said_by(&packet);
         self.decided = decided_by(self, kind, number, history);
         self.taken = self.taken.max(number);
         self.whole = is_end(kind);
-        self.packet = Some(packet);
+        mem::replace(&mut self.packet, Some(packet))
     }
 
     /// The row of packet p by the message taken last, where it is the one that decides p.

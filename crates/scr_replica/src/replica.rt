@@ -17,6 +17,7 @@ use scr_lane::ReceiveEnd;
 use scr_log::{CorePass, Logs};
 use scr_plan::CoreCounts;
 use scr_program::Program;
+use scr_wire::Packet;
 use std::alloc::Global;
 use std::marker::Model;
 
@@ -28,6 +29,8 @@ pub struct Replica<P: Program> {
     pub(crate) pass: CorePass,
     pub(crate) state: P::State,
     pub(crate) heard: Heard,
+    // The packet that it took before the last, until it is asked for.
+    pub(crate) spent: Option<Packet>,
     // The row of the packet at hand as published, once it is.
     pub(crate) row: Option<Row>,
     pub(crate) finished: u32,
@@ -81,6 +84,7 @@ impl<P: Program> Replica<P> {
                 pass,
                 state,
                 heard: Heard::nothing(),
+                spent: None,
                 row: None,
                 finished: 0,
                 asked: 0,
@@ -111,6 +115,15 @@ impl<P: Program> Replica<P> {
         ensures { (value : ℕ) × (self.new ≡ record self.old { pass = looked self.old.pass (Halt value) }) × (IsTrue result ↔ (value ≡ 1)) }
     {
         logs.halted(&mut self.pass)
+    }
+
+    /// The packet that it took before the last, once: it needs that no more. It can go back to the thread whose memory it
+    /// is. Without this it is dropped when the next message is taken.
+    #[inline(always)]
+    pub fn spent(&mut self) -> Option<Packet>
+        ensures { self.new ≡ self.old }
+    {
+        self.spent.take()
     }
 
     /// Its pass, its counts and the entries of its state. The end of its lane is given up.

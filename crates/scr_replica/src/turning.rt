@@ -67,7 +67,7 @@ impl<P: Program> Replica<P> {
             return self.wait(logs, Pending::Empty);
         }
         let packet = self.lane.pop(rt);
-        self.heard.take(packet, self.history);
+        self.spent = self.heard.take(packet, self.history);
         Turn::Moved
     }
 

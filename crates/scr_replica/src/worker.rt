@@ -1,17 +1,19 @@
-ghost use Rattle.std.specs.Prelude.{◌≡◌, IfOk, IfErr, OnOk, OnErr};
+ghost use Rattle.std.specs.Prelude.{◌≡◌, ◌∷◌, [], List, IfOk, IfErr, OnOk, OnErr};
+ghost use Rattle.scr_plan.specs.declared.given.Given.{Given};
 ghost use Rattle.scr_log.specs.declared.view.Noted.TheVariants.{Halt};
 ghost use Rattle.scr_log.specs.Passes.{OfCore};
 ghost use Rattle.scr_log.specs.Answers.{EndsWith};
 ghost use Rattle.scr_replica.specs.declared.standing.Standing.TheVariants as standing;
-ghost use Rattle.scr_replica.specs.Answers.{core_answer};
+ghost use Rattle.scr_replica.specs.OneCore.{course};
+ghost use Rattle.scr_replica.specs.Answers.{core_answer, core_tally};
 ghost use Rattle.scr_replica.specs.Replicas.{Begin, Stands};
 ghost use Rattle.scr_replica.specs.declared.worker.CoreCause.TheVariants as causes;
 ghost use Rattle.scr_replica.specs.Stops.{StopTells};
-ghost use Rattle.scr_replica.specs.Ways.{stopped_by, CameFrom, IsOnItsWay, Leads};
+ghost use Rattle.scr_replica.specs.Ways.{stopped_by, HasWatched, CameFrom, IsOnItsWay, Leads};
 
-use crate::applying::keep;
 use crate::gate::Gate;
-use crate::gathered::CoreResult;
+use crate::gathered::{CoreResult, CoreTally};
+use crate::outlet::Outlet;
 use crate::replica::Replica;
 use crate::turn::Turn;
 use crossbeam_utils::Backoff;
@@ -48,7 +50,7 @@ impl Model for CoreStop {
     ghost view = { λ it. record { pass = it.pass; cause = it.cause } };
 }
 
-// What a turn, whose verdict is kept, leads to.
+// What a turn, whose verdict is given out, leads to.
 #[derive(Clone, Copy)]
 enum Advance {
     On,
@@ -57,26 +59,69 @@ enum Advance {
     Stops(CoreCause),
 }
 
-// A turn, whose verdict is kept.
+// Gives a verdict out. Where there is no room for it, it pauses and tries again, unless the run was halted.
+fn give_out<P: Program, O: Outlet, R: Wait>(
+    rt: &R,
+    replica: &mut Replica<P>,
+    logs: &Logs,
+    outlet: &mut O,
+    given: Given,
+) -> Result<(), CoreCause>
+    requires of_these { replica.old.pass.logs ≡ logs.now }
+    requires awaited { (whole : List Given) × (rest : List Given) × O.Awaits outlet.old whole (given ∷ rest) }
+    ensures watched { HasWatched replica.old replica.new }
+    ensures given { (whole rest : List Given) → O.Awaits outlet.old whole (given ∷ rest) → OnOk result (O.Awaits outlet.new whole rest) }
+    ensures halted { IfErr result (λ cause. cause ≡ causes.Halted → EndsWith replica.old.pass replica.new.pass (Halt 1)) }
+{
+    let pause = Backoff::new();
+    for _ in rt.forever() {
+        match outlet.give(rt, given) {
+            Ok(true) => return Ok(()),
+            Ok(false) if replica.halted(logs) => return Err(CoreCause::Halted),
+            Ok(false) => pause.snooze(),
+            Err(error) => return Err(CoreCause::OutOfMemory(error)),
+        }
+    }
+    unreachable!()
+}
+
+// Gives a packet back that the core needs no more, where there is one.
 #[inline]
-fn take_turn<P: Program, R: Wait>(
+fn give_back<P: Program, O: Outlet>(replica: &mut Replica<P>, outlet: &mut O)
+    ensures same { replica.new ≡ replica.old }
+    ensures awaits { (whole rest : List Given) → O.Awaits outlet.old whole rest → O.Awaits outlet.new whole rest }
+{
+    if let Some(packet) = replica.spent() {
+        outlet.take_back(packet);
+    }
+}
+
+// A turn, whose verdict is given out. Behind one that took a message the packet before goes back.
+#[inline]
+fn take_turn<P: Program, O: Outlet, R: Wait>(
     rt: &R,
     settings: &P::Settings,
     replica: &mut Replica<P>,
     logs: &Logs,
-    verdicts: &mut Vec<Given>,
+    outlet: &mut O,
 ) -> Advance
     requires of_these { replica.old.pass.logs ≡ logs.now }
     requires stands { Stands (P.StandsFor settings.now) replica.old }
     requires running { replica.old.standing ≡ standing.Running }
-    ensures { (start : OfCore) → IsOnItsWay (P.StandsFor settings.now) (P.verdict_after settings.now) start replica.old verdicts.old.items → Leads (P.StandsFor settings.now) (P.verdict_after settings.now) start replica.new verdicts.new.items result }
+    requires way { (start : OfCore) × IsOnItsWay (P.StandsFor settings.now) (P.verdict_after settings.now) (O.Awaits outlet.old) start replica.old }
+    ensures { (start : OfCore) → IsOnItsWay (P.StandsFor settings.now) (P.verdict_after settings.now) (O.Awaits outlet.old) start replica.old → Leads (P.StandsFor settings.now) (P.verdict_after settings.now) (O.Awaits outlet.new) start replica.new result }
 {
     match replica.turn(rt, settings, logs) {
-        Turn::Moved => Advance::On,
-        Turn::Verdict { number, verdict } => match keep(verdicts, Some(Given { number, verdict })) {
-            Ok(()) => Advance::On,
-            Err(error) => Advance::Stops(CoreCause::OutOfMemory(error)),
-        },
+        Turn::Moved => {
+            give_back(replica, outlet);
+            Advance::On
+        }
+        Turn::Verdict { number, verdict } => {
+            match give_out(rt, replica, logs, outlet, Given { number, verdict }) {
+                Ok(()) => Advance::On,
+                Err(cause) => Advance::Stops(cause),
+            }
+        }
         Turn::Waiting(_) => Advance::Waits,
         Turn::Ended => Advance::Through,
         Turn::Halted => Advance::Stops(CoreCause::Halted),
@@ -85,24 +130,24 @@ fn take_turn<P: Program, R: Wait>(
 }
 
 // Turns until the end, or until the core has to stop. It pauses where it waits.
-fn go_through<P: Program, R: Wait>(
+fn go_through<P: Program, O: Outlet, R: Wait>(
     rt: &R,
     settings: &P::Settings,
     replica: &mut Replica<P>,
     logs: &Logs,
-    verdicts: &mut Vec<Given>,
+    outlet: &mut O,
 ) -> Result<(), CoreCause>
     requires of_these { replica.old.pass.logs ≡ logs.now }
     requires running { replica.old.standing ≡ standing.Running }
-    requires begin { IsOnItsWay (P.StandsFor settings.now) (P.verdict_after settings.now) replica.old.pass replica.old verdicts.old.items }
+    requires begin { IsOnItsWay (P.StandsFor settings.now) (P.verdict_after settings.now) (O.Awaits outlet.old) replica.old.pass replica.old }
     ensures ended { OnOk result (replica.new.standing ≡ standing.Ended) }
-    ensures way { OnOk result (IsOnItsWay (P.StandsFor settings.now) (P.verdict_after settings.now) replica.old.pass replica.new verdicts.new.items) }
-    ensures stopped { OnErr result (CameFrom (P.StandsFor settings.now) (P.verdict_after settings.now) replica.old.pass replica.new) }
+    ensures way { OnOk result (IsOnItsWay (P.StandsFor settings.now) (P.verdict_after settings.now) (O.Awaits outlet.new) replica.old.pass replica.new) }
+    ensures stopped { OnErr result (CameFrom (P.StandsFor settings.now) replica.old.pass replica.new) }
     ensures halted { IfErr result (λ cause. cause ≡ causes.Halted → EndsWith replica.old.pass replica.new.pass (Halt 1)) }
 {
     let mut pause = Backoff::new();
     for _ in rt.forever() {
-        match take_turn(rt, settings, replica, logs, verdicts) {
+        match take_turn(rt, settings, replica, logs, outlet) {
             Advance::On => pause = Backoff::new(),
             Advance::Waits => pause.snooze(),
             Advance::Through => return Ok(()),
@@ -126,8 +171,48 @@ fn stopped(logs: &Logs, mut pass: CorePass, cause: CoreCause) -> CoreStop
     CoreStop { pass, cause }
 }
 
-/// A core in the calling thread, from its begin to its end: it takes its lane, and goes through the gate once in and once
-/// out.
+/// A core in the calling thread, from its begin to its end: it takes its lane, gives its verdicts out one by one, and goes
+/// through the gate once in and once out.
+pub fn run_core_into<P: Program, G: Gate, O: Outlet, R: Wait>(
+    rt: &R,
+    alloc: Global,
+    settings: &P::Settings,
+    lane: ReceiveEnd,
+    pass: CorePass,
+    logs: &Logs,
+    gate: &G,
+    outlet: &mut O,
+) -> Result<CoreTally, CoreStop>
+    requires of_these { pass.logs ≡ logs.now }
+    requires begin { Begin lane pass }
+    requires awaits { O.Awaits outlet.old (course (P.verdict_after settings.now) logs.now.plan pass.core) (course (P.verdict_after settings.now) logs.now.plan pass.core) }
+    ensures tally { IfOk result (λ it. it ≡ core_tally (P.count_after settings.now) logs.now.plan pass.core) }
+    ensures given { OnOk result (O.Awaits outlet.new (course (P.verdict_after settings.now) logs.now.plan pass.core) []) }
+    ensures stop { IfErr result (StopTells pass) }
+{
+    gate.enter(rt, &pass);
+    let mut replica = match Replica::<P>::make(alloc, settings, lane, pass, logs) {
+        Ok(replica) => replica,
+        Err(stop) => return Err(stopped(logs, stop.pass, stop.cause)),
+    };
+    match go_through(rt, settings, &mut replica, logs, outlet) {
+        Ok(()) => {
+            gate.leave(rt, replica.pass());
+            let (pass, counts, flows) = replica.take_apart(settings);
+            Ok(CoreTally {
+                core: pass.core(),
+                counts,
+                flows,
+            })
+        }
+        Err(cause) => {
+            let (pass, _, _) = replica.take_apart(settings);
+            Err(stopped(logs, pass, cause))
+        }
+    }
+}
+
+/// A core in the calling thread, from its begin to its end, which keeps its verdicts in a list.
 pub fn run_core<P: Program, G: Gate, R: Wait>(
     rt: &R,
     alloc: Global,
@@ -142,26 +227,21 @@ pub fn run_core<P: Program, G: Gate, R: Wait>(
     ensures answer { IfOk result (λ it. it ≡ core_answer (P.verdict_after settings.now) (P.count_after settings.now) logs.now.plan pass.core) }
     ensures stop { IfErr result (StopTells pass) }
 {
-    gate.enter(rt, &pass);
-    let mut replica = match Replica::<P>::make(alloc, settings, lane, pass, logs) {
-        Ok(replica) => replica,
-        Err(stop) => return Err(stopped(logs, stop.pass, stop.cause)),
-    };
     let mut verdicts = Vec::new(alloc);
-    match go_through(rt, settings, &mut replica, logs, &mut verdicts) {
-        Ok(()) => {
-            gate.leave(rt, replica.pass());
-            let (pass, counts, flows) = replica.take_apart(settings);
-            Ok(CoreResult {
-                core: pass.core(),
-                verdicts,
-                counts,
-                flows,
-            })
-        }
-        Err(cause) => {
-            let (pass, _, _) = replica.take_apart(settings);
-            Err(stopped(logs, pass, cause))
-        }
-    }
+    let tally = run_core_into::<P, G, Vec<Given>, R>(
+        rt,
+        alloc,
+        settings,
+        lane,
+        pass,
+        logs,
+        gate,
+        &mut verdicts,
+    )?;
+    Ok(CoreResult {
+        core: tally.core,
+        verdicts,
+        counts: tally.counts,
+        flows: tally.flows,
+    })
 }

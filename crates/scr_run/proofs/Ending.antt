@@ -17,8 +17,9 @@ use Rattle.scr_pcapng.specs.declared.error.NgError.TheVariants as blocks
 use Rattle.scr_pcapng.specs.Either.{reading_of}
 use Rattle.scr_pcapng.specs.Reading.{IsReading}
 use Rattle.scr_pcapng.specs.State.{IsCauseOf, faults_counted}
+use Rattle.scr_stream.specs.declared.error.StreamError.{StreamError}
 use Rattle.scr_run.specs.declared.status.Status.{Status}
-use Rattle.scr_run.specs.declared.status.Status.TheVariants.{Done, Words, Capture, ReadFault, WriteFault, OutOfMemory, TooMany, Pcapng}
+use Rattle.scr_run.specs.declared.status.Status.TheVariants.{Done, Words, Capture, ReadFault, WriteFault, OutOfMemory, TooMany, Pcapng, Stream}
 use Rattle.scr_words.specs.declared.word_fault.WordFault.{WordFault}
 use Rattle.scr_run.specs.Asked.{status_of, status_of_classic, status_of_blocks, asked_by, IsOfCapture}
 use Rattle.scr_run.specs.Ends.{Ends, IsText, Stands, Writes, StopsWriting, BeginsWriting, reads_behind, writes_behind, IsWantsBehind, status_of_sink, IsRefusal, IsOutOfMemory, IsUnlessOutOfMemory, IsStop, StopsReading}
@@ -38,6 +39,7 @@ module _ (Asked Asked' : Result (List ℕ) Status → Type 0) (Takes Takes' AtEn
   Stands-through (Capture error) (asked, same) = (more (Err (Capture error)) asked, same)
   Stands-through (TooMany limit) (asked, same) = (more (Err (TooMany limit)) asked, same)
   Stands-through (Pcapng error) (asked, same) = (more (Err (Pcapng error)) asked, same)
+  Stands-through (Stream fault) (asked, same) = (more (Err (Stream fault)) asked, same)
   Stands-through ReadFault (taken, same) = (takes taken, same)
   Stands-through WriteFault stands = stops_through stands
   Stands-through (OutOfMemory want) (inl same) = inl same
@@ -61,6 +63,7 @@ reads_none Asked AtEnd written old new failed_before failed (Words fault) stands
 reads_none Asked AtEnd written old new failed_before failed (Capture error) stands same = same
 reads_none Asked AtEnd written old new failed_before failed (TooMany limit) stands same = same
 reads_none Asked AtEnd written old new failed_before failed (Pcapng error) stands same = same
+reads_none Asked AtEnd written old new failed_before failed (Stream fault) stands same = same
 reads_none Asked AtEnd written old new failed_before failed ReadFault stands same = absurd stands.0
 reads_none Asked AtEnd written old new failed_before failed WriteFault stands same = same
 reads_none Asked AtEnd written old new failed_before failed (OutOfMemory want) stands same = same
@@ -93,6 +96,11 @@ module _ {O : Type 0} (written : O → Option (List ℕ)) (faults wants : O → 
         writes = (counts.out_of_memory want refl).0;
         wants_behind = inr (counts.out_of_memory want refl).1;
       })
+
+  -- of the same text
+  pub Ends-of_text : (text other : List ℕ) (status : Status) → text ≡ other → Ends (IsText text) ⊥ (Unit {0}) written 0 0 faults wants old new status
+      → Ends (IsText other) ⊥ (Unit {0}) written 0 0 faults wants old new status
+  Ends-of_text text other status same ends = subst (λ (t : List ℕ). Ends (IsText t) ⊥ (Unit {0}) written 0 0 faults wants old new status) same ends
 
   -- behind a capture that was read to its end
   pub Ends-behind : (text : List ℕ) (Asked : Result (List ℕ) Status → Type 0) (Takes AtEnd : Type 0) (failed_before failed : ℕ) (status : Status)
@@ -136,6 +144,7 @@ Ends-stopped text left Takes AtEnd written faults wants out failed_before failed
   wants_behind = refl;
 }
 Ends-stopped text left Takes AtEnd written faults wants out failed_before failed WriteFault takes stops = absurd stops.why
+Ends-stopped text left Takes AtEnd written faults wants out failed_before failed (Stream fault) takes stops = absurd stops.why
 Ends-stopped text left Takes AtEnd written faults wants out failed_before failed (OutOfMemory want) takes stops = record {
   stands = inl refl;
   reads = stops.reads;
@@ -244,6 +253,7 @@ module _ (Asked : Result (List ℕ) Status → Type 0) (Takes AtEnd : Type 0) {O
   front-from (Capture error) stands = inl stands.1
   front-from (TooMany limit) stands = inl stands.1
   front-from (Pcapng error) stands = inl stands.1
+  front-from (Stream fault) stands = inl stands.1
   front-from ReadFault stands = inl stands.1
   front-from WriteFault stands = inr (begins stands)
   front-from (OutOfMemory want) (inl same) = inl same
@@ -264,6 +274,7 @@ module _ (Asked : Result (List ℕ) Status → Type 0) (Takes AtEnd : Type 0) {O
   status-is (Capture error) ends = inl (only (Err (Capture error)) ends.stands.0)
   status-is (TooMany limit) ends = inl (only (Err (TooMany limit)) ends.stands.0)
   status-is (Pcapng error) ends = inl (only (Err (Pcapng error)) ends.stands.0)
+  status-is (Stream fault) ends = inl (only (Err (Stream fault)) ends.stands.0)
   status-is ReadFault ends = absurd (calm ends.stands.0 ends.reads)
   status-is WriteFault ends = absurd (calm_out (sym (only (Ok ends.stands.text) ends.stands.asked)) ends.writes)
   status-is (OutOfMemory want) ends = inr (want, refl)
@@ -310,7 +321,7 @@ pub capture-asked : (text : List Record → List ℕ) (bytes : List ℕ) (left :
 capture-asked text bytes left reading same is read asked of =
     ap status_asked (IsOfCapture-by text bytes left reading asked same is read of) ∙ status_asked-by text reading
 
--- no capture asks for the status of words
+-- no capture asks for the status of words, nor for that of a stream
 no_fault-words : (fault : WordFault) (error : AnyError) → Words fault ≡ status_of error → ⊥
 no_fault-words fault error same = subst (IsStop None) (sym same) (stop-of_any error)
 
@@ -320,6 +331,16 @@ no-words text left fault of = refused of.reading of.told
     refused : (reading : Result (List Record) AnyError) → Err (Words fault) ≡ asked_by text reading → ⊥
     refused (Ok records) same = cc
     refused (Err error) same = no_fault-words fault error cc
+
+no_fault-stream : (fault : StreamError) (error : AnyError) → Stream fault ≡ status_of error → ⊥
+no_fault-stream fault error same = subst (IsStop None) (sym same) (stop-of_any error)
+
+pub no-stream : (text : List Record → List ℕ) (left : Option (List ℕ)) (fault : StreamError) → IsOfCapture text left (Err (Stream fault)) → ⊥
+no-stream text left fault of = refused of.reading of.told
+  where
+    refused : (reading : Result (List Record) AnyError) → Err (Stream fault) ≡ asked_by text reading → ⊥
+    refused (Ok records) same = cc
+    refused (Err error) same = no_fault-stream fault error cc
 
 -- how a run ended, from what is told of it status by status
 module _ (Asked : Result (List ℕ) Status → Type 0) (Takes AtEnd : Type 0) {O : Type 0} (written : O → Option (List ℕ)) (faults wants : O → ℕ) (old new : O) where
@@ -333,6 +354,7 @@ module _ (Asked : Result (List ℕ) Status → Type 0) (Takes AtEnd : Type 0) {O
   shown_stands (Capture error) done refused read write want = refused tt
   shown_stands (TooMany limit) done refused read write want = refused tt
   shown_stands (Pcapng error) done refused read write want = refused tt
+  shown_stands (Stream fault) done refused read write want = refused tt
   shown_stands ReadFault done refused read write want = read refl
   shown_stands WriteFault done refused read write want = write refl
   shown_stands (OutOfMemory memory) done refused read write want = want (memory, refl)

@@ -3,5 +3,9 @@ pub mod Ending
 pub mod Counts
 pub mod Written
 pub mod Loading
+pub mod Streams
+pub mod Codes
+pub mod SameOutcome
 pub mod ByCommand
 pub mod Main
+mod Leaving

@@ -4,7 +4,7 @@ use Rattle.scr_pcap.specs.Records.{Record}
 use Rattle.scr_pcapng.specs.Reading.{IsReading}
 use Rattle.scr_pcapng.specs.declared.error.AnyError.{AnyError}
 use Rattle.scr_run.specs.declared.status.Status.{Status}
-use Rattle.scr_run.specs.declared.status.Status.TheVariants.{Done, Words, Capture, ReadFault, WriteFault, OutOfMemory, TooMany, Pcapng}
+use Rattle.scr_run.specs.declared.status.Status.TheVariants.{Done, Words, Capture, ReadFault, WriteFault, OutOfMemory, TooMany, Pcapng, Stream}
 use Rattle.scr_run.specs.Asked.{IsOfCapture}
 use Rattle.scr_run.specs.Ends.{Ends, IsText, Stands}
 use Rattle.scr_run.proofs.Ending.{Ends-through, Ends-behind, IsOfCapture-by}
@@ -18,6 +18,7 @@ module _ (text : List Record → List ℕ) (bytes : List ℕ) (left : Option (Li
   no_fault failed (Capture error) ends = ends.stands
   no_fault failed (TooMany limit) ends = ends.stands
   no_fault failed (Pcapng error) ends = ends.stands
+  no_fault failed (Stream fault) ends = ends.stands
   no_fault failed ReadFault ends = let rose = ends.reads in absurd (omega (arith, rose))
   no_fault failed WriteFault ends = ends.stands
   no_fault failed (OutOfMemory want) ends = ends.stands

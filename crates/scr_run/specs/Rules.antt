@@ -1,4 +1,5 @@
 -- What the program says that the settings choose: one of the five, a chain of two of them, or a table.
+use Rattle.std.specs.Prelude.{ℕ, Option, Some, None}
 pub use Rattle.scr_program.specs.Rules.{Rules, ruled_by}
 use Rattle.scr_program.specs.Rules.{rules_of_step}
 use Rattle.scr_chain.specs.Chains.{chained}
@@ -32,3 +33,17 @@ abbrev pub rules_of : ProgramSettings → Rules
 rules_of (One settings) = rules_of_one settings
 rules_of (Chain first second) = chained (rules_of_one first) (rules_of_one second)
 rules_of (Table settings) = rules_of_table settings
+
+-- the number of a program in a stream
+abbrev pub code_of_one : OneSettings → ℕ
+code_of_one (Ddos settings) = 0
+code_of_one (Heavy settings) = 1
+code_of_one (Bucket settings) = 2
+code_of_one (Knock settings) = 3
+code_of_one (Conn settings) = 4
+
+-- the number of what runs; a chain and a table have none
+abbrev pub stream_code : ProgramSettings → Option ℕ
+stream_code (One settings) = Some (code_of_one settings)
+stream_code (Chain first second) = None
+stream_code (Table settings) = None

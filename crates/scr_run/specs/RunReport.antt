@@ -1,7 +1,7 @@
--- The report of a run, from the records of its capture: the one-core answer over the packets that delivered frames
+-- The report of a run, from the records of its capture or the plan of its stream: the one-core answer over the packets that delivered frames
 -- carry, and the counters. The lines of cores depend on cores, history and link; where no frame comes later, all else
 -- depends on history and link alone.
-use Rattle.std.specs.Prelude.{ℕ, Bool, true, false, List, [], map}
+use Rattle.std.specs.Prelude.{ℕ, Bool, true, List, [], map}
 use Rattle.std.specs.List.{range_with_len}
 use Rattle.scr_base.specs.declared.row.Row.{Row}
 use Rattle.scr_frame.specs.declared.parsed.Parsed.{Parsed}
@@ -11,8 +11,7 @@ use Rattle.scr_plan.specs.Counts.{delivered_count, kept_count, plan_counts}
 use Rattle.scr_plan.specs.Plan.{Plan, frame_count}
 use Rattle.scr_replica.specs.OneCore.{verdicts, entries, undivided}
 use Rattle.scr_report.specs.Outcome.{Outcome, report_of, report_text}
-use Rattle.scr_words.specs.declared.settings.Command.{Command}
-use Rattle.scr_words.specs.declared.settings.Command.TheVariants.{Run, Plain, Load}
+use Rattle.scr_stream.specs.Streamed.{streamed}
 use Rattle.scr_words.specs.declared.settings.Shape.{Shape}
 use Rattle.scr_run.specs.Rules.{Rules}
 
@@ -33,18 +32,19 @@ outcome_of rules plan = report_of rules.names (verdicts rules.verdict_after plan
     (map (plan_counts plan) (range_with_len 0 plan.cores))
     (entries rules.count_after plan)
 
--- the report of a run with this shape, with the lines of the verdicts or without
+-- the report of a plan, with the lines of the verdicts or without
+abbrev pub plan_text : Rules → Bool → Plan → List ℕ
+plan_text rules with_verdicts plan = report_text rules.names (outcome_of rules plan) with_verdicts
+
+-- the report of a run with this shape
 abbrev pub shaped_text : Rules → Shape → Bool → List Record → List ℕ
-shaped_text rules shape with_verdicts records =
-    report_text rules.names (outcome_of rules (shaped shape (rows_of rules.row_of records))) with_verdicts
+shaped_text rules shape with_verdicts records = plan_text rules with_verdicts (shaped shape (rows_of rules.row_of records))
+
+-- the stream of a run with this shape, of the program with this number
+abbrev pub sprayed_text : (code : ℕ) → Rules → Shape → List Record → List ℕ
+sprayed_text code rules shape records = streamed code (shaped shape (rows_of rules.row_of records))
 
 -- the report without cores: every frame is delivered, and every packet kept
 abbrev pub plain_text : Rules → List Record → List ℕ
 plain_text rules records =
     report_text rules.names (record (outcome_of rules (undivided (rows_of rules.row_of records))) { cores = [] }) true
-
--- the report that a command writes
-abbrev pub text_by : Rules → Command → Shape → List Record → List ℕ
-text_by rules Run shape records = shaped_text rules shape true records
-text_by rules Plain shape records = plain_text rules records
-text_by rules Load shape records = shaped_text rules shape false records

@@ -5,8 +5,7 @@ use Rattle.scr_run.specs.declared.task.Task.{Task}
 use Rattle.scr_run.specs.declared.status.Status.{Status}
 use Rattle.scr_run.specs.Asked.{IsByCommand}
 use Rattle.scr_run.specs.Rules.{Rules}
-use Rattle.scr_run.specs.RunReport.{text_by}
 
 abbrev pub IsByTask : Rules → Task → Option (List ℕ) → Result (List ℕ) Status → Type 0
 IsByTask rules task left asked =
-    IsByCommand (text_by rules task.command task.shape) (generated_records task.start task.frames task.hosts) left task.command asked
+    IsByCommand rules task.code task.shape (generated_records task.start task.frames task.hosts) left task.command asked

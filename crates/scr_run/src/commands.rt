@@ -1,9 +1,10 @@
-ghost use Rattle.std.specs.Prelude.{true, false, ◌≡◌};
+ghost use Rattle.std.specs.Prelude.{true, false, ◌≡◌, ◌<◌, IsTrue, Some};
 ghost use Rattle.std.specs.Io.KnownBytes.{IsAtEnd};
 ghost use Rattle.scr_chain.specs.Chains.{chained};
 ghost use Rattle.scr_pcap.specs.Generated.{generated_records};
-ghost use Rattle.scr_words.specs.Operands.{makes_load};
-ghost use Rattle.scr_run.specs.Rules.{ruled_by, rules_of_one};
+ghost use Rattle.scr_words.specs.Operands.{makes_load, runs};
+ghost use Rattle.scr_run.specs.Codes.{is_code};
+ghost use Rattle.scr_run.specs.Rules.{ruled_by, rules_of_one, code_of_one, stream_code};
 ghost use Rattle.scr_run.specs.RunReport.{shaped_text};
 ghost use Rattle.scr_run.specs.Asked.{IsBySettings};
 ghost use Rattle.scr_run.specs.Ends.{Ends, IsText, ended};
@@ -12,6 +13,8 @@ ghost use Rattle.scr_run.specs.Tasks.{IsByTask};
 use crate::engine::run_cores;
 use crate::host::Host;
 use crate::plain::run_whole;
+use crate::replay::run_replay;
+use crate::spray::run_spray;
 use crate::status::Status;
 use crate::task::Task;
 use scr_base::{Sink, Source, SureSource};
@@ -36,6 +39,7 @@ pub(crate) fn run_chosen<S: Source, O: Sink, G: Gate + Sync, R: Threads + Wait +
     capture: &mut S,
     out: &mut O,
 ) -> Result<(), Status>
+    requires known { runs chosen.command chosen.program ≡ true }
     ensures ends { Ends (IsBySettings chosen (S.left capture.old)) (makes_load chosen.command ≡ false) (makes_load chosen.command ≡ false → IsAtEnd (S.left capture.new))
         O.written (S.faults capture.old) (S.faults capture.new) O.faults O.wants out.old out.new (ended result) }
     ensures unread { makes_load chosen.command ≡ true → capture.new ≡ capture.old }
@@ -48,8 +52,10 @@ pub(crate) fn run_chosen<S: Source, O: Sink, G: Gate + Sync, R: Threads + Wait +
         frames,
         hosts,
     } = chosen;
+    let code = stream_code(&program);
     let task = Task {
         command,
+        code,
         shape,
         start,
         frames,
@@ -63,6 +69,28 @@ pub(crate) fn run_chosen<S: Source, O: Sink, G: Gate + Sync, R: Threads + Wait +
         ProgramSettings::Table(settings) => {
             run_command::<Tables, S, O, G, R>(host, &settings, task, capture, out)
         }
+    }
+}
+
+// The number of what runs in a stream; a chain and a table have none.
+fn stream_code(program: &ProgramSettings) -> Option<u8>
+    ensures { result ≡ stream_code program.now }
+{
+    match program {
+        ProgramSettings::One(settings) => Some(code_of_one(settings)),
+        ProgramSettings::Chain { .. } | ProgramSettings::Table(_) => None,
+    }
+}
+
+fn code_of_one(program: &OneSettings) -> u8
+    ensures { result ≡ code_of_one program.now }
+{
+    match program {
+        OneSettings::Ddos(_) => 0,
+        OneSettings::Heavy(_) => 1,
+        OneSettings::Bucket(_) => 2,
+        OneSettings::Knock(_) => 3,
+        OneSettings::Conn(_) => 4,
     }
 }
 
@@ -183,6 +211,26 @@ fn run_command<P: Program, S: Source, O: Sink, G: Gate + Sync, R: Threads + Wait
         Command::Plain => run_whole::<P, S, O>(host.alloc, settings, capture, out),
         Command::Run => run_cores::<P, S, O, G, R>(host, settings, task.shape, true, capture, out),
         Command::Load => run_load::<P, O, G, R>(host, settings, task, out),
+        Command::Spray => {
+            let code = code_in(&task);
+            run_spray::<P, S, O>(host.alloc, code, settings, task.shape, capture, out)
+        }
+        Command::Replay => {
+            let code = code_in(&task);
+            run_replay::<P, S, O, G, R>(host, code, settings, &task.shape, capture, out)
+        }
+    }
+}
+
+// The number in a stream of the program of a task that has one.
+fn code_in(task: &Task) -> u8
+    requires { IsTrue (is_code task.now.code) }
+    ensures some { task.now.code ≡ Some result }
+    ensures few { result < 5 }
+{
+    match task.code {
+        Some(code) => code,
+        None => unreachable!(),
     }
 }
 

@@ -1,4 +1,4 @@
-ghost use Rattle.std.specs.Prelude.{◌≡◌, ◌≢◌, ◌≤◌, ◌⊎◌, ◌++◌, ◌∷◌, [], ℕ, List, length, map, Some, Ok, Err, IfOk, IfErr, IfSome, OnOk};
+ghost use Rattle.std.specs.Prelude.{◌≡◌, ◌≢◌, ◌≤◌, ◌⊎◌, ◌++◌, ◌∷◌, [], ℕ, List, length, Some, Ok, Err, IfOk, IfErr, IfSome, OnOk};
 ghost use Rattle.std.specs.Io.KnownBytes.{IsAtEnd};
 ghost use Rattle.scr_base.specs.Causes.{counted};
 ghost use Rattle.scr_frame.specs.Fields.{fields};
@@ -6,30 +6,21 @@ ghost use Rattle.scr_pcap.specs.Records.{Record, RECORDS, CAPTURED};
 ghost use Rattle.scr_pcapng.specs.Reading.{IsReading};
 ghost use Rattle.scr_pcapng.specs.declared.error.AnyError.{AnyError};
 ghost use Rattle.scr_words.specs.declared.word_fault.WordFault.{WordFault};
-ghost use Rattle.std.specs.List.{range_with_len};
-ghost use Rattle.scr_plan.specs.Counts.{delivered_count, kept_count, plan_counts};
-ghost use Rattle.scr_plan.specs.Plan.{frame_count};
-ghost use Rattle.scr_log.specs.Layout.{most_slots};
-ghost use Rattle.scr_replica.specs.OneCore.{verdicts, entries};
-ghost use Rattle.scr_report.specs.Outcome.{report_of};
 ghost use Rattle.scr_run.specs.Rules.{ruled_by};
 ghost use Rattle.scr_run.specs.RunReport.{shaped_text, rows_of};
 ghost use Rattle.scr_run.specs.Asked.{IsOfCapture, status_of};
 ghost use Rattle.scr_run.specs.Ends.{Ends, ended, Writes, StopsWriting, BeginsWriting, HasFault, StopsReading, IsRefusal, IsOutOfMemory, IsUnlessOutOfMemory, IsWantsBehind, reads_behind, writes_behind};
 
-use crate::found::write_found;
 use crate::host::Host;
-use crate::names::names_of;
+use crate::planned::{Manner, write_plan};
 use crate::status::Status;
 use scr_base::{OutOfMemory, Row, Sink, Source};
-use scr_crew::run_threads;
 use scr_frame::parse;
 use scr_pcap::FrameBuf;
 use scr_pcapng::AnyReader;
-use scr_plan::{CoreCounts, RunPlan};
+use scr_plan::RunPlan;
 use scr_program::Program;
-use scr_replica::{Gate, Gathered, run_phases};
-use scr_report::{FrameCounts, Report};
+use scr_replica::Gate;
 use scr_words::Shape;
 use std::alloc::Global;
 use std::sync::Wait;
@@ -37,7 +28,7 @@ use std::thread::Threads;
 
 /// A program over a capture, on the cores of a shape: the capture is read whole, its frames are dealt to the cores, and
 /// the report of what they gathered is written, with the verdicts or without. The cores are threads, or take turns on this
-/// one, as the shape says. It may wait for threads.
+/// one, as the shape says. Where they are threads, the lines of the verdicts leave while they run. It may wait for threads.
 ///
 /// `out` gains the report, whole at [`Status::Done`] and else a front of it.
 pub fn run_engine<P: Program, S: Source, O: Sink, G: Gate + Sync, R: Threads + Wait + Sync>(
@@ -106,81 +97,18 @@ pub(crate) fn run_cores<P: Program, S: Source, O: Sink, G: Gate + Sync, R: Threa
     ensures ends { Ends (IsOfCapture (shaped_text (ruled_by (P.row_of settings.now) (P.verdict_after settings.now) (P.count_after settings.now) P.verdict_names) shape with_verdicts) (S.left capture.old))
         (Unit {0}) (IsAtEnd (S.left capture.new)) O.written (S.faults capture.old) (S.faults capture.new) O.faults O.wants out.old out.new (ended result) }
 {
-    let alloc = host.alloc;
-    let rows = rows_read::<P, S>(alloc, settings, capture)?;
-    let Shape {
-        cores,
-        history,
-        link,
-        ring,
-        threads,
-    } = shape;
-    let plan = RunPlan::make(rows, cores, history, link);
-    let gathered = gathered_by::<P, G, R>(host, settings, &plan, ring, threads)?;
-    let report = report_on::<P>(alloc, &plan, gathered)?;
-    write_found::<P, O>(alloc, &report, with_verdicts, out)
-}
-
-// What the cores gather, in threads or in turns.
-fn gathered_by<P: Program, G: Gate + Sync, R: Threads + Wait + Sync>(
-    host: &Host<'_, R, G>,
-    settings: &P::Settings,
-    plan: &RunPlan,
-    ring: u32,
-    threads: bool,
-) -> Result<Gathered, OutOfMemory>
-    requires some_slots { 1 ≤ ring }
-    requires few_slots { ring ≤ most_slots }
-    ensures verdicts { IfOk result (λ it. it.verdicts ≡ verdicts (P.verdict_after settings.now) plan.now) }
-    ensures cores { IfOk result (λ it. it.cores ≡ map (plan_counts plan.now) (range_with_len 0 plan.now.cores)) }
-    ensures flows { IfOk result (λ it. it.flows ≡ entries (P.count_after settings.now) plan.now) }
-{
-    if threads {
-        run_threads::<P, G, R>(host.rt, host.alloc, settings, plan, ring, host.gate)
-    } else {
-        run_phases::<P>(host.alloc, settings, plan)
-    }
-}
-
-// What the cores gathered, as a report.
-fn report_on<P: Program>(
-    alloc: Global,
-    plan: &RunPlan,
-    gathered: Gathered,
-) -> Result<Report, OutOfMemory>
-    requires cores { gathered.cores ≡ map (plan_counts plan.now) (range_with_len 0 plan.now.cores) }
-    requires delivered { length gathered.verdicts ≡ delivered_count plan.now }
-    ensures { IfOk result (λ report. report ≡ report_of P.verdict_names gathered.verdicts
-        (frame_count plan.now)
-        (delivered_count plan.now) (kept_count plan.now)
-        gathered.cores gathered.flows) }
-{
-    let names = names_of::<P>(alloc)?;
-    let kept = kept_of(plan, &gathered.cores);
-    let Gathered {
-        verdicts,
-        cores,
-        flows,
-    } = gathered;
-    let counts = FrameCounts {
-        frames: plan.rows().len() as u32,
-        delivered: verdicts.len() as u32,
-        kept,
+    let rows = rows_read::<P, S>(host.alloc, settings, capture)?;
+    let manner = Manner {
+        ring: shape.ring,
+        threads: shape.threads,
+        with_verdicts,
     };
-    Report::of(alloc, &names, verdicts, counts, cores, flows)
-}
-
-// How many packets are kept: all but those that a core skipped.
-fn kept_of(plan: &RunPlan, cores: &[CoreCounts]) -> u32
-    requires cores { cores.now ≡ map (plan_counts plan.now) (range_with_len 0 plan.now.cores) }
-    ensures { result ≡ kept_count plan.now }
-{
-    let frames = plan.rows().len() as u32;
-    frames - cores[0].skipped
+    let plan = RunPlan::make(rows, shape.cores, shape.history, shape.link);
+    write_plan::<P, O, G, R>(host, settings, &plan, manner, out)
 }
 
 // The rows of all frames of a capture.
-fn rows_read<P: Program, S: Source>(
+pub(crate) fn rows_read<P: Program, S: Source>(
     alloc: Global,
     settings: &P::Settings,
     capture: &mut S,

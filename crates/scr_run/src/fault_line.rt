@@ -4,6 +4,7 @@ ghost use Rattle.scr_base.specs.Streams.{WritesText, BatchesText};
 ghost use Rattle.scr_run.specs.FaultLines.{block_line, blocks_line, captured_line, short_record_line, long_record_line, capture_line, too_many_blocks_line, too_many_line, fault_line, want_code, want_line, IsTold};
 
 use crate::status::{Status, WANT_CODE};
+use crate::stream_line::put_stream_line;
 use scr_base::{Batch, Piece, Sink, SinkError, put_all};
 use scr_pcap::CaptureError;
 use scr_pcapng::NgError;
@@ -48,6 +49,7 @@ fn put_fault_line<E: Sink>(batch: &mut Batch, err: &mut E, status: &Status) -> R
         Status::OutOfMemory(_) => batch.put(err, WANT_LINE),
         Status::TooMany { limit } => put_too_many_line(batch, err, *limit),
         Status::Pcapng(error) => put_blocks_line(batch, err, error),
+        Status::Stream(error) => put_stream_line(batch, err, error),
     }
 }
 

@@ -3,8 +3,10 @@ ghost use Rattle.scr_run.specs.Ends.{ended};
 ghost use Rattle.scr_run.specs.FaultLines.{code_of};
 
 use scr_base::{OutOfMemory, SinkError};
+use scr_crew::RunStop;
 use scr_pcap::CaptureError;
 use scr_pcapng::{AnyError, NgError};
+use scr_stream::StreamError;
 use scr_words::{WordFault, WordsError};
 
 /// The exit code of a run that had no memory.
@@ -13,13 +15,13 @@ pub(crate) const WANT_CODE: u8 = 5;
 /// How a run ended. Each status but the first has a line, which [`write_fault_line`](crate::write_fault_line) writes.
 #[derive(Clone, Copy, Debug, PartialEq, Eq)]
 pub enum Status {
-    /// The capture was read to its end, and the report is written whole.
+    /// The input was read to its end, and the report, or the stream of a spray, is written whole.
     Done,
-    /// The words of the command line are refused. The capture is not read.
+    /// The words of the command line are refused. The input is not read.
     Words(WordFault),
     /// A capture in the libpcap file format is malformed: its first fault. Nothing is written.
     Capture(CaptureError),
-    /// Reading the capture failed. Nothing is written.
+    /// Reading the input failed. Nothing is written.
     ReadFault,
     /// Writing the report failed. A front of it is written.
     WriteFault,
@@ -29,6 +31,8 @@ pub enum Status {
     TooMany { limit: u32 },
     /// A capture in blocks (pcapng) is malformed: its first fault. Nothing is written.
     Pcapng(NgError),
+    /// A stream that is replayed is malformed: its first fault. Nothing is written.
+    Stream(StreamError),
 }
 
 impl Status {
@@ -42,7 +46,7 @@ impl Status {
         }
     }
 
-    /// The exit code of a program that ends so: 0 where it is done, else 1 to 7.
+    /// The exit code of a program that ends so: 0 where it is done, else 1 to 8.
     pub fn code(&self) -> u8
         ensures { result ≡ code_of self.now }
     {
@@ -55,6 +59,7 @@ impl Status {
             Status::OutOfMemory(_) => WANT_CODE,
             Status::TooMany { .. } => 6,
             Status::Pcapng(_) => 7,
+            Status::Stream(_) => 8,
         }
     }
 }
@@ -104,6 +109,21 @@ impl From<AnyError> for Status {
     }
 }
 
+impl From<StreamError> for Status {
+    ghost use Rattle.std.specs.Prelude.{◌≡◌};
+    ghost use Rattle.scr_run.specs.Asked.{status_of_stream};
+
+    ghost from_gives = { λ error status. status ≡ status_of_stream error };
+
+    fn from(error: StreamError) -> Self {
+        match error {
+            StreamError::ReadFault => Status::ReadFault,
+            StreamError::OutOfMemory(want) => Status::OutOfMemory(want),
+            malformed => Status::Stream(malformed),
+        }
+    }
+}
+
 impl From<OutOfMemory> for Status {
     ghost use Rattle.std.specs.Prelude.{◌≡◌};
     ghost use Rattle.scr_run.specs.declared.status.Status.TheVariants as status;
@@ -125,6 +145,20 @@ impl From<SinkError> for Status {
         match error {
             SinkError::Failed => Status::WriteFault,
             SinkError::OutOfMemory(want) => Status::OutOfMemory(want),
+        }
+    }
+}
+
+impl From<RunStop> for Status {
+    ghost use Rattle.std.specs.Prelude.{◌≡◌};
+    ghost use Rattle.scr_run.specs.Ends.{status_of_stop};
+
+    ghost from_gives = { λ stop status. status ≡ status_of_stop stop };
+
+    fn from(stop: RunStop) -> Self {
+        match stop {
+            RunStop::WriteFault => Status::WriteFault,
+            RunStop::OutOfMemory(want) => Status::OutOfMemory(want),
         }
     }
 }

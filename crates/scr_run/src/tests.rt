@@ -11,6 +11,7 @@ use std::thread::Threads;
 
 mod blocks;
 mod statuses;
+mod streams;
 
 /// The header of a capture with times in microseconds.
 const HEADER: &[u8] = &[

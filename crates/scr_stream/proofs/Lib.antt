@@ -17,6 +17,6 @@ mod Growing
 mod RowsWritten
 mod FramesWritten
 mod EntryStands
-mod OneReading
-mod WrittenRead
+pub mod OneReading
+pub mod WrittenRead
 mod Reach

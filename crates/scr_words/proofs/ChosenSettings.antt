@@ -108,27 +108,27 @@ IsTable-prop rules = hlevel (le_prop, Bool-set)
 is_table : {a b : List Rule} (e : a ≡ b) (p : IsTable a) (q : IsTable b) → PathP (λ i. IsTable (e i)) p q
 is_table {b = b} e p q = to_path_p (λ i. IsTable (e i)) (IsTable-prop b _ q)
 
-module _ (operands : List (List ℕ)) (values : HaveFaultlessValues operands) where
+module _ (command : Command) (operands : List (List ℕ)) (values : HaveFaultlessValues command operands) where
   flows_inside : (1 ≤ number_for operand.Flows operands) × (number_for operand.Flows operands ≤ MOST_FLOWS)
-  flows_inside = number-inside operands values operand.Flows refl refl
+  flows_inside = number-inside command operands values operand.Flows refl refl
 
   ports_are : ArePorts-of (value_for operand.Ports operands)
-  ports_are = ArePorts-from _ _ _ (value_for-passes operand.Ports operands values refl)
+  ports_are = ArePorts-from _ _ _ (value_for-passes command operand.Ports operands values refl)
 
   -- the settings of a program by the values that its operands have
   abbrev made : OneName → OneSettings
   made name.Ddos = Ddos (record {
     threshold = number_for operand.Threshold operands;
     flows = number_for operand.Flows operands;
-    threshold_fits = (number-inside operands values operand.Threshold refl refl).1;
+    threshold_fits = (number-inside command operands values operand.Threshold refl refl).1;
     some = flows_inside.0;
     few = flows_inside.1;
   })
   made name.Heavy = Heavy (record {
     bytes = number_for operand.Bytes operands;
     flows = number_for operand.Flows operands;
-    bytes_some = (number-inside operands values operand.Bytes refl refl).0;
-    bytes_fits = (number-inside operands values operand.Bytes refl refl).1;
+    bytes_some = (number-inside command operands values operand.Bytes refl refl).0;
+    bytes_fits = (number-inside command operands values operand.Bytes refl refl).1;
     some = flows_inside.0;
     few = flows_inside.1;
   })
@@ -136,9 +136,9 @@ module _ (operands : List (List ℕ)) (values : HaveFaultlessValues operands) wh
     rate = number_for operand.Rate operands;
     burst = number_for operand.Burst operands;
     flows = number_for operand.Flows operands;
-    rate_fits = (number-inside operands values operand.Rate refl refl).1;
-    burst_some = (number-inside operands values operand.Burst refl refl).0;
-    burst_fits = (number-inside operands values operand.Burst refl refl).1;
+    rate_fits = (number-inside command operands values operand.Rate refl refl).1;
+    burst_some = (number-inside command operands values operand.Burst refl refl).0;
+    burst_fits = (number-inside command operands values operand.Burst refl refl).1;
     some = flows_inside.0;
     few = flows_inside.1;
   })
@@ -156,8 +156,8 @@ module _ (operands : List (List ℕ)) (values : HaveFaultlessValues operands) wh
   made name.Conn = Conn (record {
     idle = number_for operand.Idle operands;
     flows = number_for operand.Flows operands;
-    some_time = (number-inside operands values operand.Idle refl refl).0;
-    few_time = (number-inside operands values operand.Idle refl refl).1;
+    some_time = (number-inside command operands values operand.Idle refl refl).0;
+    few_time = (number-inside command operands values operand.Idle refl refl).1;
     some_flows = flows_inside.0;
     few_flows = flows_inside.1;
   })
@@ -185,7 +185,7 @@ module _ (operands : List (List ℕ)) (values : HaveFaultlessValues operands) wh
       λ i. Ddos (record {
         threshold = threshold i;
         flows = flows i;
-        threshold_fits = at_most threshold settings.threshold_fits (number-inside operands values operand.Threshold refl refl).1 i;
+        threshold_fits = at_most threshold settings.threshold_fits (number-inside command operands values operand.Threshold refl refl).1 i;
         some = at_least flows settings.some flows_inside.0 i;
         few = at_most flows settings.few flows_inside.1 i;
       })
@@ -193,8 +193,8 @@ module _ (operands : List (List ℕ)) (values : HaveFaultlessValues operands) wh
       λ i. Heavy (record {
         bytes = bytes i;
         flows = flows i;
-        bytes_some = at_least bytes settings.bytes_some (number-inside operands values operand.Bytes refl refl).0 i;
-        bytes_fits = at_most bytes settings.bytes_fits (number-inside operands values operand.Bytes refl refl).1 i;
+        bytes_some = at_least bytes settings.bytes_some (number-inside command operands values operand.Bytes refl refl).0 i;
+        bytes_fits = at_most bytes settings.bytes_fits (number-inside command operands values operand.Bytes refl refl).1 i;
         some = at_least flows settings.some flows_inside.0 i;
         few = at_most flows settings.few flows_inside.1 i;
       })
@@ -203,9 +203,9 @@ module _ (operands : List (List ℕ)) (values : HaveFaultlessValues operands) wh
         rate = rate i;
         burst = burst i;
         flows = flows i;
-        rate_fits = at_most rate settings.rate_fits (number-inside operands values operand.Rate refl refl).1 i;
-        burst_some = at_least burst settings.burst_some (number-inside operands values operand.Burst refl refl).0 i;
-        burst_fits = at_most burst settings.burst_fits (number-inside operands values operand.Burst refl refl).1 i;
+        rate_fits = at_most rate settings.rate_fits (number-inside command operands values operand.Rate refl refl).1 i;
+        burst_some = at_least burst settings.burst_some (number-inside command operands values operand.Burst refl refl).0 i;
+        burst_fits = at_most burst settings.burst_fits (number-inside command operands values operand.Burst refl refl).1 i;
         some = at_least flows settings.some flows_inside.0 i;
         few = at_most flows settings.few flows_inside.1 i;
       })
@@ -226,8 +226,8 @@ module _ (operands : List (List ℕ)) (values : HaveFaultlessValues operands) wh
       λ i. Conn (record {
         idle = idle i;
         flows = flows i;
-        some_time = at_least idle settings.some_time (number-inside operands values operand.Idle refl refl).0 i;
-        few_time = at_most idle settings.few_time (number-inside operands values operand.Idle refl refl).1 i;
+        some_time = at_least idle settings.some_time (number-inside command operands values operand.Idle refl refl).0 i;
+        few_time = at_most idle settings.few_time (number-inside command operands values operand.Idle refl refl).1 i;
         some_flows = at_least flows settings.some_flows flows_inside.0 i;
         few_flows = at_most flows settings.few_flows flows_inside.1 i;
       })
@@ -248,7 +248,7 @@ module _ (operands : List (List ℕ)) (values : HaveFaultlessValues operands) wh
   one-same : (a b : OneSettings) → HasNumbers operands a → HasNumbers operands b → name_of a ≡ name_of b → a ≡ b
   one-same a b has_a has_b same = made-same a has_a ∙ ap made same ∙ sym (made-same b has_b)
 
-  program-same : (a b : ProgramSettings) → HasProgram operands a → HasProgram operands b → a ≡ b
+  program-same : (a b : ProgramSettings) → HasProgram command operands a → HasProgram command operands b → a ≡ b
   program-same (One a) (One b) has_a has_b = ap One (one-same a b has_a.1 has_b.1 (cc (has_a.0, has_b.0)))
   program-same (Chain a c) (Chain b d) has_a has_b =
       let first = one-same a b has_a.3 has_b.3 (cc (has_a.1, has_b.1)) in
@@ -263,13 +263,13 @@ module _ (operands : List (List ℕ)) (values : HaveFaultlessValues operands) wh
   program-same (Table a) (Chain b d) has_a has_b = absurd (cc (has_a.0, has_b.0))
 
   pub drops_some : (ranges : List DropRange) × Spells (value_for operand.Drop operands) ranges
-  drops_some = ranges-some Drop (value_for operand.Drop operands) (value_for-passes operand.Drop operands values (list_fault-empty read_at Drop))
+  drops_some = ranges-some Drop (value_for operand.Drop operands) (value_for-passes command operand.Drop operands values (list_fault-empty read_at Drop))
 
   pub repeats_some : (ranges : List DropRange) × Spells (value_for operand.Repeat operands) ranges
-  repeats_some = ranges-some Repeat (value_for operand.Repeat operands) (value_for-passes operand.Repeat operands values (list_fault-empty read_at Repeat))
+  repeats_some = ranges-some Repeat (value_for operand.Repeat operands) (value_for-passes command operand.Repeat operands values (list_fault-empty read_at Repeat))
 
   pub delays_some : (delays : List FrameDelay) × SpellsDelays (value_for operand.Delay operands) delays
-  delays_some = delays-some Delay (value_for operand.Delay operands) (value_for-passes operand.Delay operands values (list_fault-empty delay_read_at Delay))
+  delays_some = delays-some Delay (value_for operand.Delay operands) (value_for-passes command operand.Delay operands values (list_fault-empty delay_read_at Delay))
 
   link_some : (link : Link) × HasLink operands link
   link_some =
@@ -283,8 +283,8 @@ module _ (operands : List (List ℕ)) (values : HaveFaultlessValues operands) wh
   shape_some : (shape : Shape) × HasShape operands shape
   shape_some =
       let (link, has_link) = link_some in
-      let cores = number-inside operands values operand.Cores refl refl in
-      let ring = number-inside operands values operand.Ring refl refl in
+      let cores = number-inside command operands values operand.Cores refl refl in
+      let ring = number-inside command operands values operand.Ring refl refl in
       let shape : Shape = record {
         cores = number_for operand.Cores operands;
         history = history_for operands;
@@ -293,7 +293,7 @@ module _ (operands : List (List ℕ)) (values : HaveFaultlessValues operands) wh
         threads = bytes_eq (value_for operand.Threads operands) (codes "yes");
         some_cores = cores.0;
         few_cores = cores.1;
-        short_history = history-short operands values;
+        short_history = history-short command operands values;
         some_ring = ring.0;
         short_ring = ring.1;
       } in
@@ -301,10 +301,10 @@ module _ (operands : List (List ℕ)) (values : HaveFaultlessValues operands) wh
 
   -- the words choose some program, or a required operand is absent
   abbrev SomeProgram : Type 0
-  SomeProgram = ((settings : ProgramSettings) × HasProgram operands settings) ⊎ (lacks_operand operands ≡ true)
+  SomeProgram = ((settings : ProgramSettings) × HasProgram command operands settings) ⊎ (lacks_operand command operands ≡ true)
 
-  table_by : program_in operands ≡ Some program.Table → (found : Option (List ℕ)) → given (table operand.Table).name operands ≡ found → SomeProgram
-  table_by is None absent = inr (lacks-table operands is absent)
+  table_by : program_in command operands ≡ Some program.Table → (found : Option (List ℕ)) → given (table operand.Table).name operands ≡ found → SomeProgram
+  table_by is None absent = inr (lacks-table command operands is absent)
   table_by is (Some text) found =
       let (rules, spells) = table-some text (values operand.Table text found) in
       let value : value_for operand.Table operands ≡ text = rw found refl in
@@ -317,24 +317,24 @@ module _ (operands : List (List ℕ)) (values : HaveFaultlessValues operands) wh
       } in
       inl (Table settings, (is, subst (λ (t : List ℕ). tables.Spells t rules) (sym value) spells, refl))
 
-  chain_by : program_in operands ≡ Some program.Chain → (first second : Option OneName) → first_in operands ≡ first → second_in operands ≡ second → SomeProgram
-  chain_by is None second none is_second = inr (lacks-first operands values is none)
-  chain_by is (Some first) None is_first none = inr (lacks-second operands values is none)
+  chain_by : program_in command operands ≡ Some program.Chain → (first second : Option OneName) → first_in operands ≡ first → second_in operands ≡ second → SomeProgram
+  chain_by is None second none is_second = inr (lacks-first command operands values is none)
+  chain_by is (Some first) None is_first none = inr (lacks-second command operands values is none)
   chain_by is (Some first) (Some second) is_first is_second =
       inl (Chain (made first) (made second), (is, is_first ∙ named first, is_second ∙ named second, HasNumbers-made first, HasNumbers-made second))
 
-  program_by : (found : Option ProgramName) → program_in operands ≡ found → SomeProgram
-  program_by None none = inr (lacks-program operands values none)
+  program_by : (found : Option ProgramName) → program_in command operands ≡ found → SomeProgram
+  program_by None none = inr (lacks-program command operands values none)
   program_by (Some (program.One one)) is =
       inl (One (made one), (is ∙ ap (λ (n : OneName). Some (program.One n)) (sym (name_of-made one)), HasNumbers-made one))
   program_by (Some program.Chain) is = chain_by is (first_in operands) (second_in operands) refl refl
   program_by (Some program.Table) is = table_by is (given (table operand.Table).name operands) refl
 
-  settings_by : (command : Command) (program : ProgramSettings) → HasProgram operands program
+  settings_by : (program : ProgramSettings) → HasProgram command operands program
       → (settings : RunSettings) × (settings.command ≡ command) × AreChosen operands settings
-  settings_by command program has_program =
+  settings_by program has_program =
       let (shape, has_shape) = shape_some in
-      let hosts = number-inside operands values operand.Hosts refl refl in
+      let hosts = number-inside command operands values operand.Hosts refl refl in
       let settings : RunSettings = record {
         command = command;
         program = program;
@@ -342,17 +342,17 @@ module _ (operands : List (List ℕ)) (values : HaveFaultlessValues operands) wh
         start = number_for operand.Start operands;
         frames = number_for operand.Frames operands;
         hosts = number_for operand.Hosts operands;
-        few_frames = (number-inside operands values operand.Frames refl refl).1;
+        few_frames = (number-inside command operands values operand.Frames refl refl).1;
         some_hosts = hosts.0;
         few_hosts = hosts.1;
       } in
       (settings, refl, record { program = has_program; shape = has_shape; start = refl; frames = refl; hosts = refl })
 
-  pub settings_some : (command : Command)
-      → ((settings : RunSettings) × (settings.command ≡ command) × AreChosen operands settings) ⊎ (lacks_operand operands ≡ true)
-  settings_some command =
-      elim (program_by (program_in operands) refl) [
-        | inl (program, has) ↦ inl (settings_by command program has)
+  pub settings_some :
+      ((settings : RunSettings) × (settings.command ≡ command) × AreChosen operands settings) ⊎ (lacks_operand command operands ≡ true)
+  settings_some =
+      elim (program_by (program_in command operands) refl) [
+        | inl (program, has) ↦ inl (settings_by program has)
         | inr lacks ↦ inr lacks
       ]
 
@@ -400,9 +400,10 @@ RunSettings-same a b command program shape start frames hosts = λ i. record {
 }
 
 -- words choose one settings
-pub AreChosen-same : (operands : List (List ℕ)) (a b : RunSettings) → HaveFaultlessValues operands → a.command ≡ b.command
+pub AreChosen-same : (operands : List (List ℕ)) (a b : RunSettings) → HaveFaultlessValues a.command operands → a.command ≡ b.command
     → AreChosen operands a → AreChosen operands b → a ≡ b
 AreChosen-same operands a b values command of_a of_b =
-    RunSettings-same a b command (program-same operands values a.program b.program of_a.program of_b.program)
+    let program = subst (λ (c : Command). HasProgram c operands b.program) (sym command) of_b.program in
+    RunSettings-same a b command (program-same a.command operands values a.program b.program of_a.program program)
     (HasShape-same operands a.shape b.shape of_a.shape of_b.shape) (of_a.start ∙ sym of_b.start) (of_a.frames ∙ sym of_b.frames)
     (of_a.hosts ∙ sym of_b.hosts)

@@ -79,10 +79,10 @@ first-none (Some cause) b none = absurd cc
 -- an operand without a fault has a value without one
 value_fault-none : (command : Command) (choice : Choice) (before : List (List ℕ)) (word : List ℕ) (operand : Operand)
     → has_equals word ≡ true → operand_named (name_in word) ≡ Some operand → operand_fault command choice before word ≡ None
-    → value_fault (table operand).form (value_in word) ≡ None
+    → value_fault command (table operand).form (value_in word) ≡ None
 unfolding operand_fault
 value_fault-none command choice before word operand has known faultless =
-    let value = value_fault (table operand).form (value_in word) in
+    let value = value_fault command (table operand).form (value_in word) in
     let tested = option_or value (same_fault before operand (value_in word)) in
     let again = list_any (is_named (name_in word)) before in
     let here : cond (not (is_taken command choice (table operand).taker)) (Some NotHere) (cond again (Some Twice) tested) ≡ None =
@@ -90,15 +90,15 @@ value_fault-none command choice before word operand has known faultless =
     first-none value (same_fault before operand (value_in word))
     (none-past again Twice tested (none-past (not (is_taken command choice (table operand).taker)) NotHere (cond again (Some Twice) tested) here))
 
-pub HaveFaultlessValues-from : (command : Command) (operands : List (List ℕ)) → AreFaultless command operands → HaveFaultlessValues operands
+pub HaveFaultlessValues-from : (command : Command) (operands : List (List ℕ)) → AreFaultless command operands → HaveFaultlessValues command operands
 HaveFaultlessValues-from command operands faultless = λ operand value found.
     let at = IsGivenAt-from_given (table operand).name operands value found in
     let word = get_or operands at.place [] in
     let named = and_parts (has_equals word) (bytes_eq (name_in word) (table operand).name) at.named in
     let known : operand_named (name_in word) ≡ Some operand =
     ap operand_named ((bytes_eq-Decides (name_in word) (table operand).name).0 named.1) ∙ operand_named-table operand in
-    subst (λ (v : List ℕ). value_fault (table operand).form v ≡ None) at.value_is
-    (value_fault-none command (chosen operands) _ word operand named.0 known (faultless at.place at.within))
+    subst (λ (v : List ℕ). value_fault command (table operand).form v ≡ None) at.value_is
+    (value_fault-none command (chosen command operands) _ word operand named.0 known (faultless at.place at.within))
 
 -- where a value that is given is a name, and none is named, none is given
 given-none : {A : Type 0} (named : List ℕ → Option A) (found : Option (List ℕ))
@@ -115,23 +115,25 @@ or-true true = refl
 or-true false = refl
 
 -- which required operand is absent
-module _ (operands : List (List ℕ)) where
-  pub lacks-program : HaveFaultlessValues operands → program_in operands ≡ None → lacks_operand operands ≡ true
+module _ (command : Command) (operands : List (List ℕ)) where
+  pub lacks-program : HaveFaultlessValues command operands → program_in command operands ≡ None → lacks_operand command operands ≡ true
   lacks-program values none =
       let absent : given (table operand.Program).name operands ≡ None =
-      given-none program_named (given (table operand.Program).name operands) (values operand.Program) none in
+      given-none (program_named command) (given (table operand.Program).name operands) (values operand.Program) none in
       rw (none, absent) refl
 
-  pub lacks-table : program_in operands ≡ Some name.Table → given (table operand.Table).name operands ≡ None → lacks_operand operands ≡ true
+  pub lacks-table : program_in command operands ≡ Some name.Table → given (table operand.Table).name operands ≡ None → lacks_operand command operands ≡ true
   lacks-table is absent = rw (is, absent) (or-true (is_absent operands operand.Program))
 
-  pub lacks-first : HaveFaultlessValues operands → program_in operands ≡ Some name.Chain → first_in operands ≡ None → lacks_operand operands ≡ true
+  pub lacks-first : HaveFaultlessValues command operands → program_in command operands ≡ Some name.Chain → first_in operands ≡ None
+      → lacks_operand command operands ≡ true
   lacks-first values is none =
       let absent : given (table operand.First).name operands ≡ None =
       given-none (one_named all_firsts) (given (table operand.First).name operands) (values operand.First) none in
       rw (is, absent) (or-true (is_absent operands operand.Program))
 
-  pub lacks-second : HaveFaultlessValues operands → program_in operands ≡ Some name.Chain → second_in operands ≡ None → lacks_operand operands ≡ true
+  pub lacks-second : HaveFaultlessValues command operands → program_in command operands ≡ Some name.Chain → second_in operands ≡ None
+      → lacks_operand command operands ≡ true
   lacks-second values is none =
       let absent : given (table operand.Second).name operands ≡ None =
       given-none (one_named all_ones) (given (table operand.Second).name operands) (values operand.Second) none in

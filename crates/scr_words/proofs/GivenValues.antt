@@ -2,6 +2,7 @@
 use Rattle.std.proofs.Common.{◌≡◌, ℕ, List, Option, Some, None, Result, Ok, Err, refl}
 use Rattle.std.specs.Prelude.{unwrap_or, MatchResult}
 use Rattle.scr_program.specs.declared.setting.SettingError.{SettingError}
+use Rattle.scr_words.specs.declared.settings.Command.{Command}
 use Rattle.scr_words.specs.declared.operand.Operand.{Operand}
 use Rattle.scr_words.specs.declared.word_fault.WordCause.{WordCause}
 use Rattle.scr_words.specs.Operands.{table}
@@ -17,10 +18,11 @@ unwrap_or-passes fault None default passes default_passes = default_passes
 unwrap_or-passes fault (Some value) default passes default_passes = passes value refl
 
 -- the value of an operand passes its test, where the default does
-pub value_for-passes : (operand : Operand) (operands : List (List ℕ)) → HaveFaultlessValues operands
-    → value_fault (table operand).form (table operand).default ≡ None → value_fault (table operand).form (value_for operand operands) ≡ None
-value_for-passes operand operands passes default_passes =
-    unwrap_or-passes (value_fault (table operand).form) (given (table operand).name operands) (table operand).default
+pub value_for-passes : (command : Command) (operand : Operand) (operands : List (List ℕ)) → HaveFaultlessValues command operands
+    → value_fault command (table operand).form (table operand).default ≡ None
+    → value_fault command (table operand).form (value_for operand operands) ≡ None
+value_for-passes command operand operands passes default_passes =
+    unwrap_or-passes (value_fault command (table operand).form) (given (table operand).name operands) (table operand).default
     (passes operand) default_passes
 
 -- a setting without a fault is read

@@ -4,5 +4,6 @@ pub mod OperandFaults
 pub mod FaultlessWords
 pub mod FaultlessValues
 pub mod ChosenSettings
+pub mod KnownPrograms
 pub mod OneAnswer
 pub mod SomeAnswer

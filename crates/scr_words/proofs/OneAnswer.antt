@@ -91,15 +91,16 @@ table-given None rules spells = absurd (some-none (Table Empty 0) (table_fault [
 table-given (Some text) rules spells = refl
 
 -- accepted words lack no operand
-lacks-none : (operands : List (List ℕ)) (settings : ProgramSettings) → HasProgram operands settings → lacks_operand operands ≡ false
-lacks-none operands (settings.One one) has = rw (has.0, named-given program_named (given (table operand.Program).name operands) _ has.0) refl
-lacks-none operands (settings.Chain first second) has =
-    let program = named-given program_named (given (table operand.Program).name operands) _ has.0 in
+lacks-none : (command : Command) (operands : List (List ℕ)) (settings : ProgramSettings) → HasProgram command operands settings
+    → lacks_operand command operands ≡ false
+lacks-none command operands (settings.One one) has = rw (has.0, named-given (program_named command) (given (table operand.Program).name operands) _ has.0) refl
+lacks-none command operands (settings.Chain first second) has =
+    let program = named-given (program_named command) (given (table operand.Program).name operands) _ has.0 in
     let one = named-given (one_named all_firsts) (given (table operand.First).name operands) _ has.1 in
     let other = named-given (one_named all_ones) (given (table operand.Second).name operands) _ has.2 in
     rw (has.0, program, one, other) refl
-lacks-none operands (settings.Table rules) has =
-    let program = named-given program_named (given (table operand.Program).name operands) _ has.0 in
+lacks-none command operands (settings.Table rules) has =
+    let program = named-given (program_named command) (given (table operand.Program).name operands) _ has.0 in
     let text = table-given (given (table operand.Table).name operands) rules.table has.1 in
     rw (has.0, program, text) refl
 
@@ -107,10 +108,10 @@ true-false : (b : Bool) → b ≡ true → b ≡ false → ⊥
 true-false b is isnt = cc
 
 not_refused : (command : Command) (operands : List (List ℕ)) (settings : ProgramSettings) (fault : WordFault) → AreFaultless command operands
-    → HasProgram operands settings → IsFirstFault command operands fault ⊎ IsMissing command operands fault → ⊥
+    → HasProgram command operands settings → IsFirstFault command operands fault ⊎ IsMissing command operands fault → ⊥
 not_refused command operands settings fault faultless has (inl first) = not_first command operands fault faultless first
 not_refused command operands settings fault faultless has (inr missing) =
-    true-false (lacks_operand operands) missing.lacks (lacks-none operands settings has)
+    true-false (lacks_operand command operands) missing.lacks (lacks-none command operands settings has)
 
 Some-command : (a b : Command) (x : Option Command) → x ≡ Some a → x ≡ Some b → a ≡ b
 Some-command a b x is_a is_b = cc
@@ -121,7 +122,7 @@ AreAccepted-not_refused (first ∷ operands) settings fault accepted refused =
     not_refused settings.command operands settings.program fault accepted.faultless accepted.chosen_are.program
     (MatchOption-at_some _ _ settings.command accepted.command refused)
 
-AreAccepted-same : (words : List (List ℕ)) (a b : RunSettings) → AreAccepted words a → AreAccepted words b → a ≡ b
+pub AreAccepted-same : (words : List (List ℕ)) (a b : RunSettings) → AreAccepted words a → AreAccepted words b → a ≡ b
 AreAccepted-same [] a b one other = absurd one
 AreAccepted-same (first ∷ operands) a b one other =
     AreChosen-same operands a b (HaveFaultlessValues-from a.command operands one.faultless)

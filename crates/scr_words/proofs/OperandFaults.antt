@@ -31,14 +31,14 @@ module _ (command : Command) (choice : Choice) (before : List (List ℕ)) (word 
     fault-twice here again = rw (has, known, here, again) refl
 
     pub fault-of_value : is_taken command choice (table operand).taker ≡ true → list_any (is_named (name_in word)) before ≡ false
-        → operand_fault command choice before word ≡ given_fault before operand (value_in word)
+        → operand_fault command choice before word ≡ given_fault command before operand (value_in word)
     unfolding operand_fault
     fault-of_value here once = rw (has, known, here, once) refl
 
 -- the fault of the operand at a place, as a test of it behind the others tells it
 pub fault_at-is : (command : Command) (operands : List (List ℕ)) (place : ℕ) (choice : Choice) (word item : List ℕ)
-    → choice ≡ chosen operands → word ≡ item → item ≡ get_or operands place item → place < length operands
+    → choice ≡ chosen command operands → word ≡ item → item ≡ get_or operands place item → place < length operands
     → operand_fault command choice (take place operands) word ≡ fault_at command operands place
 fault_at-is command operands place program word item by_all is at within =
     ap (λ (c : Choice). operand_fault command c (take place operands) word) by_all
-    ∙ ap (operand_fault command (chosen operands) (take place operands)) (is ∙ at ∙ sym (get_or_default operands place [] item within))
+    ∙ ap (operand_fault command (chosen command operands) (take place operands)) (is ∙ at ∙ sym (get_or_default operands place [] item within))

@@ -44,7 +44,7 @@ module _ (first : List ℕ) (operands : List (List ℕ)) where
 
   faultless-answer : (command : Command) → command_named first ≡ Some command → AreFaultless command operands → HasAnswer (first ∷ operands)
   faultless-answer command named faultless =
-      elim (settings_some operands (HaveFaultlessValues-from command operands faultless) command) [
+      elim (settings_some command operands (HaveFaultlessValues-from command operands faultless)) [
         | inl (settings, same, are) ↦ (Ok settings, record { command = rw same named; faultless = rw same faultless; chosen_are = are })
         | inr lacks ↦ (
             let fault : WordFault = record { word = length operands + 2; cause = cause.Missing } in

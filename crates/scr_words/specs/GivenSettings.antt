@@ -8,6 +8,7 @@ use Rattle.scr_plan.specs.Spelling.{Spells}
 use Rattle.scr_plan.specs.DelaySpelling.{SpellsDelays}
 use Rattle.scr_knock.specs.Ports.{ports_in}
 use Rattle.scr_tables.specs.Spelling as tables
+use Rattle.scr_words.specs.declared.settings.Command.{Command}
 use Rattle.scr_words.specs.declared.settings.ProgramSettings.{ProgramSettings}
 use Rattle.scr_words.specs.declared.settings.ProgramSettings.TheVariants.{One, Chain, Table}
 use Rattle.scr_words.specs.declared.settings.OneSettings.{OneSettings}
@@ -65,14 +66,15 @@ HasNumbers operands (Conn settings) =
     (settings.idle ≡ number_for operand.Idle operands) × (settings.flows ≡ number_for operand.Flows operands)
 
 -- the chosen program, or both of a chain, with its numbers or its rules
-abbrev pub HasProgram : List (List ℕ) → ProgramSettings → Type 0
-HasProgram operands (One settings) = (program_in operands ≡ Some (program.One (name_of settings))) × HasNumbers operands settings
-HasProgram operands (Chain first second) = (program_in operands ≡ Some program.Chain)
+abbrev pub HasProgram : Command → List (List ℕ) → ProgramSettings → Type 0
+HasProgram command operands (One settings) =
+    (program_in command operands ≡ Some (program.One (name_of settings))) × HasNumbers operands settings
+HasProgram command operands (Chain first second) = (program_in command operands ≡ Some program.Chain)
     × (first_in operands ≡ Some (name_of first))
     × (second_in operands ≡ Some (name_of second))
     × HasNumbers operands first
     × HasNumbers operands second
-HasProgram operands (Table settings) = (program_in operands ≡ Some program.Table)
+HasProgram command operands (Table settings) = (program_in command operands ≡ Some program.Table)
     × tables.Spells (value_for operand.Table operands) settings.table
     × (settings.flows ≡ number_for operand.Flows operands)
 
@@ -93,7 +95,7 @@ pub record HasShape (operands : List (List ℕ)) (shape : Shape) : Type 0 where
 
 -- what the operands choose: the value of each
 pub record AreChosen (operands : List (List ℕ)) (settings : RunSettings) : Type 0 where
-  pub program : HasProgram operands settings.program
+  pub program : HasProgram settings.command operands settings.program
   pub shape : HasShape operands settings.shape
   pub start : settings.start ≡ number_for operand.Start operands
   pub frames : settings.frames ≡ number_for operand.Frames operands

@@ -1,6 +1,6 @@
 -- The operands of a command line: their names, who takes them, what their values are, and which value stands where the
 -- words give none.
-use Rattle.std.specs.Prelude.{ℕ, ◌≤◌, ⊤, Bool, true, false, ◌||◌, List, [], ◌∷◌, Option, Some, None, codes}
+use Rattle.std.specs.Prelude.{ℕ, ◌≤◌, ⊤, Bool, true, false, ◌&&◌, ◌||◌, List, [], ◌∷◌, Option, Some, None, codes}
 use Rattle.std.specs.List.{find}
 use Rattle.std.specs.Option.{option_map_or}
 use Rattle.std.specs.Str.{bytes_eq}
@@ -8,7 +8,9 @@ use Rattle.scr_plan.specs.Limits.{most_cores, longest_history}
 use Rattle.scr_program.specs.declared.table.TheConstants.{MOST_FLOWS}
 use Rattle.scr_words.specs.Limits.{most_ring, most_frames, most_hosts}
 use Rattle.scr_words.specs.declared.settings.Command.{Command}
-use Rattle.scr_words.specs.declared.settings.Command.TheVariants.{Run, Plain, Load}
+use Rattle.scr_words.specs.declared.settings.Command.TheVariants.{Run, Plain, Load, Spray, Replay}
+use Rattle.scr_words.specs.declared.settings.ProgramSettings.{ProgramSettings}
+use Rattle.scr_words.specs.declared.settings.ProgramSettings.TheVariants as settings
 use Rattle.scr_words.specs.declared.program_name.OneName.{OneName}
 use Rattle.scr_words.specs.declared.program_name.OneName.TheVariants.{Ddos, Heavy, Bucket, Knock, Conn}
 use Rattle.scr_words.specs.declared.program_name.ProgramName.{ProgramName}
@@ -26,6 +28,8 @@ abbrev pub command_name : Command → List ℕ
 command_name Run = codes "run"
 command_name Plain = codes "plain"
 command_name Load = codes "load"
+command_name Spray = codes "spray"
+command_name Replay = codes "replay"
 
 abbrev pub one_name : OneName → List ℕ
 one_name Ddos = codes "ddos"
@@ -40,7 +44,7 @@ program_name program.Chain = codes "chain"
 program_name program.Table = codes "table"
 
 abbrev pub all_commands : List Command
-all_commands = Run ∷ Plain ∷ Load ∷ []
+all_commands = Run ∷ Plain ∷ Load ∷ Spray ∷ Replay ∷ []
 
 abbrev pub all_ones : List OneName
 all_ones = Ddos ∷ Heavy ∷ Bucket ∷ Knock ∷ Conn ∷ []
@@ -53,15 +57,34 @@ abbrev pub all_programs : List ProgramName
 all_programs = program.One Ddos ∷ program.One Heavy ∷ program.One Bucket ∷ program.One Knock ∷ program.One Conn
     ∷ program.Chain ∷ program.Table ∷ []
 
--- the command, the one among some of the five, or the program with a name
+-- which programs a command knows: a stream is of one of the five
+abbrev pub is_of_five : ProgramName → Bool
+is_of_five (program.One one) = true
+is_of_five program.Chain = false
+is_of_five program.Table = false
+
+abbrev pub knows : Command → ProgramName → Bool
+knows Run program = true
+knows Plain program = true
+knows Load program = true
+knows Spray program = is_of_five program
+knows Replay program = is_of_five program
+
+-- whether a command knows what these settings are for
+abbrev pub runs : Command → ProgramSettings → Bool
+runs command (settings.One one) = true
+runs command (settings.Chain first second) = knows command program.Chain
+runs command (settings.Table rules) = knows command program.Table
+
+-- the command, the one among some of the five, or the program with a name, of those that a command knows
 unfoldable pub command_named : List ℕ → Option Command
 command_named name = find (λ command. bytes_eq (command_name command) name) all_commands
 
 unfoldable pub one_named : List OneName → List ℕ → Option OneName
 one_named ones name = find (λ one. bytes_eq (one_name one) name) ones
 
-unfoldable pub program_named : List ℕ → Option ProgramName
-program_named name = find (λ program. bytes_eq (program_name program) name) all_programs
+unfoldable pub program_named : Command → List ℕ → Option ProgramName
+program_named command name = find (λ program. knows command program && bytes_eq (program_name program) name) all_programs
 
 -- a line of the table: the name, who takes it, what its value is, and the value that stands where none is given
 pub record Line : Type 0 where
@@ -80,11 +103,11 @@ taker_of one = taker.Program (program.One one)
 abbrev pub table : Operand → Line
 table operand.Program = line (codes "program") taker.Every OneProgram []
 table operand.Flows = line (codes "flows") taker.Every (Number 1 MOST_FLOWS) (codes "4096")
-table operand.Cores = line (codes "cores") taker.WithCores (Number 1 most_cores) (codes "1")
-table operand.History = line (codes "history") taker.WithCores (Number 0 longest_history) []
-table operand.Drop = line (codes "drop") taker.WithCores DropList []
-table operand.Repeat = line (codes "repeat") taker.WithCores RepeatList []
-table operand.Delay = line (codes "delay") taker.WithCores DelayList []
+table operand.Cores = line (codes "cores") taker.Spraying (Number 1 most_cores) (codes "1")
+table operand.History = line (codes "history") taker.Spraying (Number 0 longest_history) []
+table operand.Drop = line (codes "drop") taker.Spraying DropList []
+table operand.Repeat = line (codes "repeat") taker.Spraying RepeatList []
+table operand.Delay = line (codes "delay") taker.Spraying DelayList []
 table operand.Ring = line (codes "ring") taker.WithCores (Number 1 most_ring) (codes "1024")
 table operand.Threads = line (codes "threads") taker.WithCores YesNo (codes "yes")
 table operand.Start = line (codes "start") taker.LoadAlone (Number 0 18446744073709551615) (codes "0")
@@ -110,16 +133,27 @@ all_operands =
 unfoldable pub operand_named : List ℕ → Option Operand
 operand_named name = find (λ operand. bytes_eq (table operand).name name) all_operands
 
--- which commands run cores, and which makes its own capture
+-- which commands spray the frames of a capture over cores, which run cores, and which makes its own capture
+abbrev pub sprays : Command → Bool
+sprays Run = true
+sprays Plain = false
+sprays Load = true
+sprays Spray = true
+sprays Replay = false
+
 abbrev pub runs_cores : Command → Bool
 runs_cores Run = true
 runs_cores Plain = false
 runs_cores Load = true
+runs_cores Spray = false
+runs_cores Replay = true
 
 abbrev pub makes_load : Command → Bool
 makes_load Run = false
 makes_load Plain = false
 makes_load Load = true
+makes_load Spray = false
+makes_load Replay = false
 
 abbrev pub is_same : OneName → OneName → Bool
 is_same Ddos Ddos = true
@@ -144,12 +178,14 @@ takes_those_of choice program.Table program.Table = true
 takes_those_of choice chosen other = false
 
 -- Whether an operand with this taker is taken beside this command and what the words choose. Where no program is chosen,
--- the operands of each are.
+-- the operands of each that the command knows are.
 abbrev pub is_taken : Command → Choice → Taker → Bool
 is_taken command choice taker.Every = true
+is_taken command choice taker.Spraying = sprays command
 is_taken command choice taker.WithCores = runs_cores command
 is_taken command choice taker.LoadAlone = makes_load command
-is_taken command choice (taker.Program program) = option_map_or (λ chosen. takes_those_of choice chosen program) choice.program true
+is_taken command choice (taker.Program program) =
+    knows command program && option_map_or (λ chosen. takes_those_of choice chosen program) choice.program true
 
 -- a number's form has its ends in order
 abbrev pub IsOrdered : Form → Type 0

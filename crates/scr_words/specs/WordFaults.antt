@@ -35,19 +35,19 @@ setting_fault (Err error) = Some (setting_cause error)
 abbrev pub name_fault : Bool → Option WordCause
 name_fault is_name = if is_name then None else Some cause.Program
 
--- the fault of a value, by its form
-abbrev pub value_fault : Form → List ℕ → Option WordCause
-value_fault OneProgram value = name_fault (is_some (program_named value))
-value_fault (Number least greatest) value = setting_fault (setting_within value least greatest)
-value_fault DropList value = drop_list_fault value
-value_fault RepeatList value = repeat_list_fault value
-value_fault DelayList value = delay_list_fault value
-value_fault YesNo value =
+-- the fault of a value beside a command, by its form
+abbrev pub value_fault : Command → Form → List ℕ → Option WordCause
+value_fault command OneProgram value = name_fault (is_some (program_named command value))
+value_fault command (Number least greatest) value = setting_fault (setting_within value least greatest)
+value_fault command DropList value = drop_list_fault value
+value_fault command RepeatList value = repeat_list_fault value
+value_fault command DelayList value = delay_list_fault value
+value_fault command YesNo value =
     if bytes_eq value (codes "yes") || bytes_eq value (codes "no") then None else Some cause.Value
-value_fault ThreePorts value = setting_fault (ports_in value)
-value_fault FirstProgram value = name_fault (is_some (one_named all_firsts value))
-value_fault SecondProgram value = name_fault (is_some (one_named all_ones value))
-value_fault TableText value = table_fault value
+value_fault command ThreePorts value = setting_fault (ports_in value)
+value_fault command FirstProgram value = name_fault (is_some (one_named all_firsts value))
+value_fault command SecondProgram value = name_fault (is_some (one_named all_ones value))
+value_fault command TableText value = table_fault value
 
 -- the fault of a word where the other program of a chain is named before and has this value too
 abbrev pub repeated : List (List ℕ) → Operand → List ℕ → Option WordCause
@@ -59,9 +59,15 @@ same_fault before operand.First value = repeated before operand.Second value
 same_fault before operand.Second value = repeated before operand.First value
 same_fault before operand value = None
 
+-- the fault of a value that must be a number, which is the same beside each command
+abbrev pub number_fault : Form → List ℕ → Option WordCause
+number_fault (Number least greatest) value = setting_fault (setting_within value least greatest)
+number_fault _ value = Some cause.Value
+
 -- the fault of what an operand is given
-abbrev pub given_fault : List (List ℕ) → Operand → List ℕ → Option WordCause
-given_fault before operand value = option_or (value_fault (table operand).form value) (same_fault before operand value)
+abbrev pub given_fault : Command → List (List ℕ) → Operand → List ℕ → Option WordCause
+given_fault command before operand value =
+    option_or (value_fault command (table operand).form value) (same_fault before operand value)
 
 -- The fault of a word, beside this command and what the words choose, and behind the operands `before`: the first of these
 -- that holds of it.
@@ -70,7 +76,7 @@ module _ (command : Command) (choice : Choice) (before : List (List ℕ)) (word 
   named_fault operand =
       if not (is_taken command choice (table operand).taker) then Some cause.NotHere else
       (if list_any (is_named (name_in word)) before then Some cause.Twice
-      else given_fault before operand (value_in word))
+      else given_fault command before operand (value_in word))
 
   unfoldable pub operand_fault : Option WordCause
   operand_fault =
@@ -80,7 +86,7 @@ module _ (command : Command) (choice : Choice) (before : List (List ℕ)) (word 
 -- the fault of the operand at a place; what runs is chosen by all operands
 abbrev pub fault_at : Command → List (List ℕ) → ℕ → Option WordCause
 fault_at command operands place =
-    operand_fault command (chosen operands) (take place operands) (slice_index_or operands place [])
+    operand_fault command (chosen command operands) (take place operands) (slice_index_or operands place [])
 
 -- no operand has a fault
 abbrev pub AreFaultless : Command → List (List ℕ) → Type 0
@@ -95,13 +101,13 @@ pub record IsFirstFault (command : Command) (operands : List (List ℕ)) (fault 
   pub number : fault.word ≡ place + 2
 
 -- a required operand is absent
-abbrev pub lacks_operand : List (List ℕ) → Bool
-lacks_operand operands = list_any (is_absent operands) (required (program_in operands))
+abbrev pub lacks_operand : Command → List (List ℕ) → Bool
+lacks_operand command operands = list_any (is_absent operands) (required (program_in command operands))
 
 -- no operand has a fault, and a required one is absent: one word more is missing
 pub record IsMissing (command : Command) (operands : List (List ℕ)) (fault : WordFault) : Type 0 where
   pub faultless : AreFaultless command operands
-  pub lacks : lacks_operand operands ≡ true
+  pub lacks : lacks_operand command operands ≡ true
   pub cause : fault.cause ≡ cause.Missing
   pub number : fault.word ≡ length operands + 2
 

@@ -3,6 +3,7 @@ use Rattle.std.specs.Prelude.{ℕ, Bool, ◌&&◌, List, Option, is_none, option
 use Rattle.std.specs.List.{find}
 use Rattle.std.specs.Str.{bytes_eq}
 use Rattle.scr_plan.specs.Spelling.{has_byte, in_front, behind}
+use Rattle.scr_words.specs.declared.settings.Command.{Command}
 use Rattle.scr_words.specs.declared.program_name.Choice.{Choice}
 use Rattle.scr_words.specs.declared.program_name.OneName.{OneName}
 use Rattle.scr_words.specs.declared.program_name.ProgramName.{ProgramName}
@@ -27,10 +28,10 @@ is_named name word = has_equals word && bytes_eq (name_in word) name
 unfoldable pub given : List ℕ → List (List ℕ) → Option (List ℕ)
 given name words = option_map value_in (find (is_named name) words)
 
--- The program that the words choose: the value of the first that begins with `program=`, where it is one of the names; and
--- in the same way the first and the second program of a chain.
-abbrev pub program_in : List (List ℕ) → Option ProgramName
-program_in words = option_and_then program_named (given (table operand.Program).name words)
+-- The program that the words choose beside a command: the value of the first that begins with `program=`, where it is the
+-- name of one that the command knows; and in the same way the first and the second program of a chain.
+abbrev pub program_in : Command → List (List ℕ) → Option ProgramName
+program_in command words = option_and_then (program_named command) (given (table operand.Program).name words)
 
 abbrev pub first_in : List (List ℕ) → Option OneName
 first_in words = option_and_then (one_named all_firsts) (given (table operand.First).name words)
@@ -38,8 +39,8 @@ first_in words = option_and_then (one_named all_firsts) (given (table operand.Fi
 abbrev pub second_in : List (List ℕ) → Option OneName
 second_in words = option_and_then (one_named all_ones) (given (table operand.Second).name words)
 
-abbrev pub chosen : List (List ℕ) → Choice
-chosen words = record { program = program_in words; first = first_in words; second = second_in words }
+abbrev pub chosen : Command → List (List ℕ) → Choice
+chosen command words = record { program = program_in command words; first = first_in words; second = second_in words }
 
 -- whether no word gives an operand
 abbrev pub is_absent : List (List ℕ) → Operand → Bool

@@ -26,11 +26,11 @@ abbrev pub AreRefusedBy : List (List ℕ) → WordsError → Type 0
 AreRefusedBy given (words.Refused fault) = AreRefused given fault
 AreRefusedBy given (words.OutOfMemory want) = Unit {0}
 
--- each value that the words give passes the test of its form
-abbrev pub HaveFaultlessValues : List (List ℕ) → Type 0
-HaveFaultlessValues operands = (operand : Operand) (value : List ℕ)
-    → given (table operand).name operands ≡ Some value → value_fault (table operand).form value ≡ None
+-- each value that the words give beside a command passes the test of its form
+abbrev pub HaveFaultlessValues : Command → List (List ℕ) → Type 0
+HaveFaultlessValues command operands = (operand : Operand) (value : List ℕ)
+    → given (table operand).name operands ≡ Some value → value_fault command (table operand).form value ≡ None
 
 -- what operands choose, or nothing where a required one is absent
-abbrev pub Chooses : {A : Type 0} → List (List ℕ) → (A → Type 0) → Option A → Type 0
-Chooses operands AreThese made = MatchOption made (IsTrue (lacks_operand operands)) AreThese
+abbrev pub Chooses : {A : Type 0} → Command → List (List ℕ) → (A → Type 0) → Option A → Type 0
+Chooses command operands AreThese made = MatchOption made (IsTrue (lacks_operand command operands)) AreThese

@@ -8,7 +8,7 @@ ghost use Rattle.scr_plan.specs.declared.delays.FrameDelay.{FrameDelay};
 ghost use Rattle.scr_program.specs.declared.table.TheConstants.{MOST_FLOWS};
 ghost use Rattle.scr_words.specs.Operands.{table, is_numeric, IsWithin};
 ghost use Rattle.scr_words.specs.WordParts.{program_in, chosen};
-ghost use Rattle.scr_words.specs.WordFaults.{value_fault};
+ghost use Rattle.scr_words.specs.WordFaults.{value_fault, number_fault};
 ghost use Rattle.scr_words.specs.WordTests.{HaveFaultlessValues, Chooses};
 ghost use Rattle.scr_words.specs.GivenSettings.{value_for, number_for, history_for, HasPorts, HasNumbers, name_of, HasProgram, HasLink, HasShape, AreChosen};
 
@@ -26,64 +26,71 @@ use scr_plan::{DelayError, Delays, DropError, Drops, Link};
 use scr_tables::{Table, TableError, TableSettings};
 use std::alloc::Global;
 
-/// The settings that operands choose, all of which passed their tests, or none where a required one is absent.
+/// Operands that passed their tests beside a command.
+#[derive(Clone, Copy)]
+pub(crate) struct Tested<'a> {
+    pub(crate) command: Command,
+    pub(crate) operands: &'a [Word],
+}
+
+/// The settings that operands choose, or none where a required one is absent.
 pub(crate) fn settings(
     alloc: Global,
-    command: Command,
-    operands: &[Word],
+    tested: Tested<'_>,
 ) -> Result<Option<RunSettings>, OutOfMemory>
-    requires values { HaveFaultlessValues operands.now }
-    ensures { IfOk result (Chooses operands.now (λ settings. (settings.command ≡ command) × AreChosen operands.now settings)) }
+    requires values { HaveFaultlessValues tested.command tested.operands.now }
+    ensures { IfOk result (Chooses tested.entry.command tested.entry.operands.now (λ settings.
+        (settings.command ≡ tested.entry.command) × AreChosen tested.entry.operands.now settings)) }
 {
-    let Some(program) = program_settings(alloc, operands)? else {
+    let Some(program) = program_settings(alloc, tested)? else {
         return Ok(None);
     };
     Ok(Some(RunSettings {
-        command,
+        command: tested.command,
         program,
-        shape: shape(alloc, operands)?,
-        start: number(Operand::Start, operands),
-        frames: number(Operand::Frames, operands) as u32,
-        hosts: number(Operand::Hosts, operands) as u32,
+        shape: shape(alloc, tested)?,
+        start: number(Operand::Start, tested),
+        frames: number(Operand::Frames, tested) as u32,
+        hosts: number(Operand::Hosts, tested) as u32,
     }))
 }
 
 fn program_settings(
     alloc: Global,
-    operands: &[Word],
+    tested: Tested<'_>,
 ) -> Result<Option<ProgramSettings>, OutOfMemory>
-    requires values { HaveFaultlessValues operands.now }
-    ensures { IfOk result (Chooses operands.now (HasProgram operands.now)) }
+    requires values { HaveFaultlessValues tested.command tested.operands.now }
+    ensures { IfOk result (Chooses tested.entry.command tested.entry.operands.now (HasProgram tested.entry.command tested.entry.operands.now)) }
 {
-    let choice = chosen(operands);
+    let choice = chosen(tested.command, tested.operands);
     match choice.program {
         None => Ok(None),
-        Some(ProgramName::One(one)) => Ok(Some(ProgramSettings::One(one_settings(one, operands)))),
-        Some(ProgramName::Chain) => Ok(chain_settings(choice, operands)),
-        Some(ProgramName::Table) => table_settings(alloc, operands),
+        Some(ProgramName::One(one)) => Ok(Some(ProgramSettings::One(one_settings(one, tested)))),
+        Some(ProgramName::Chain) => Ok(chain_settings(choice, tested)),
+        Some(ProgramName::Table) => table_settings(alloc, tested),
     }
 }
 
-fn chain_settings(choice: Choice, operands: &[Word]) -> Option<ProgramSettings>
-    requires values { HaveFaultlessValues operands.now }
-    requires choice { choice ≡ chosen operands.now }
+fn chain_settings(choice: Choice, tested: Tested<'_>) -> Option<ProgramSettings>
+    requires values { HaveFaultlessValues tested.command tested.operands.now }
+    requires choice { choice ≡ chosen tested.command tested.operands.now }
     requires program { choice.program ≡ Some ProgramName.Chain }
-    ensures { Chooses operands.now (HasProgram operands.now) result }
+    ensures { Chooses tested.entry.command tested.entry.operands.now (HasProgram tested.entry.command tested.entry.operands.now) result }
 {
-    let first = one_settings(choice.first?, operands);
-    let second = one_settings(choice.second?, operands);
+    let first = one_settings(choice.first?, tested);
+    let second = one_settings(choice.second?, tested);
     Some(ProgramSettings::Chain { first, second })
 }
 
-fn table_settings(alloc: Global, operands: &[Word]) -> Result<Option<ProgramSettings>, OutOfMemory>
-    requires values { HaveFaultlessValues operands.now }
-    requires program { program_in operands.now ≡ Some ProgramName.Table }
-    ensures { IfOk result (Chooses operands.now (HasProgram operands.now)) }
+fn table_settings(alloc: Global, tested: Tested<'_>) -> Result<Option<ProgramSettings>, OutOfMemory>
+    requires values { HaveFaultlessValues tested.command tested.operands.now }
+    requires program { program_in tested.command tested.operands.now ≡ Some ProgramName.Table }
+    ensures { IfOk result (Chooses tested.entry.command tested.entry.operands.now (HasProgram tested.entry.command tested.entry.operands.now)) }
 {
-    let Some(text) = given(Operand::Table.line().name, operands) else {
+    let Some(text) = given(Operand::Table.line().name, tested.operands) else {
         return Ok(None);
     };
-    let flows = number(Operand::Flows, operands) as u32;
+    let flows = number(Operand::Flows, tested) as u32;
     match Table::read(alloc, text) {
         Ok(table) => Ok(Some(ProgramSettings::Table(TableSettings::new(table, flows)))),
         Err(TableError::OutOfMemory(want)) => Err(want),
@@ -91,82 +98,82 @@ fn table_settings(alloc: Global, operands: &[Word]) -> Result<Option<ProgramSett
     }
 }
 
-fn one_settings(name: OneName, operands: &[Word]) -> OneSettings
-    requires values { HaveFaultlessValues operands.now }
+fn one_settings(name: OneName, tested: Tested<'_>) -> OneSettings
+    requires values { HaveFaultlessValues tested.command tested.operands.now }
     ensures name { name_of result ≡ name }
-    ensures numbers { HasNumbers operands.now result }
+    ensures numbers { HasNumbers tested.entry.operands.now result }
 {
-    let flows = number(Operand::Flows, operands) as u32;
+    let flows = number(Operand::Flows, tested) as u32;
     match name {
         OneName::Ddos => OneSettings::Ddos(DdosSettings {
-            threshold: number(Operand::Threshold, operands),
+            threshold: number(Operand::Threshold, tested),
             flows,
         }),
         OneName::Heavy => OneSettings::Heavy(HeavySettings {
-            bytes: number(Operand::Bytes, operands),
+            bytes: number(Operand::Bytes, tested),
             flows,
         }),
         OneName::Bucket => OneSettings::Bucket(BucketSettings {
-            rate: number(Operand::Rate, operands),
-            burst: number(Operand::Burst, operands),
+            rate: number(Operand::Rate, tested),
+            burst: number(Operand::Burst, tested),
             flows,
         }),
-        OneName::Knock => OneSettings::Knock(knock_settings(flows, operands)),
+        OneName::Knock => OneSettings::Knock(knock_settings(flows, tested)),
         OneName::Conn => OneSettings::Conn(ConnSettings {
-            idle: number(Operand::Idle, operands),
+            idle: number(Operand::Idle, tested),
             flows,
         }),
     }
 }
 
-fn knock_settings(flows: u32, operands: &[Word]) -> KnockSettings
+fn knock_settings(flows: u32, tested: Tested<'_>) -> KnockSettings
     requires some { 1 ≤ flows }
     requires few { flows ≤ MOST_FLOWS }
-    requires values { HaveFaultlessValues operands.now }
-    ensures ports { HasPorts (value_for Operand.Ports operands.now) result }
+    requires values { HaveFaultlessValues tested.command tested.operands.now }
+    ensures ports { HasPorts (value_for Operand.Ports tested.entry.operands.now) result }
     ensures flows { result.flows ≡ flows }
 {
     let mut settings = KnockSettings::new(flows);
     // The ports were tested, so they are taken.
-    let _ = settings.set(b"ports", value(Operand::Ports, operands));
+    let _ = settings.set(b"ports", value(Operand::Ports, tested));
     settings
 }
 
-fn shape(alloc: Global, operands: &[Word]) -> Result<Shape, OutOfMemory>
-    requires values { HaveFaultlessValues operands.now }
-    ensures { IfOk result (HasShape operands.now) }
+fn shape(alloc: Global, tested: Tested<'_>) -> Result<Shape, OutOfMemory>
+    requires values { HaveFaultlessValues tested.command tested.operands.now }
+    ensures { IfOk result (HasShape tested.entry.operands.now) }
 {
-    let cores = number(Operand::Cores, operands) as u32;
+    let cores = number(Operand::Cores, tested) as u32;
     Ok(Shape {
         cores,
-        history: history(cores, operands),
-        link: link(alloc, operands)?,
-        ring: number(Operand::Ring, operands) as u32,
-        threads: value(Operand::Threads, operands) == b"yes".as_slice(),
+        history: history(cores, tested),
+        link: link(alloc, tested)?,
+        ring: number(Operand::Ring, tested) as u32,
+        threads: value(Operand::Threads, tested) == b"yes".as_slice(),
     })
 }
 
-fn history(cores: u32, operands: &[Word]) -> u32
-    requires cores { cores ≡ number_for Operand.Cores operands.now }
+fn history(cores: u32, tested: Tested<'_>) -> u32
+    requires cores { cores ≡ number_for Operand.Cores tested.operands.now }
     requires some { 1 ≤ cores }
     requires few { cores ≤ most_cores }
-    requires values { HaveFaultlessValues operands.now }
-    ensures history { result ≡ history_for operands.now }
+    requires values { HaveFaultlessValues tested.command tested.operands.now }
+    ensures history { result ≡ history_for tested.entry.operands.now }
     ensures short { result ≤ longest_history }
 {
-    match given(Operand::History.line().name, operands) {
+    match given(Operand::History.line().name, tested.operands) {
         Some(text) => spelled(Operand::History, text) as u32,
         None => cores - 1,
     }
 }
 
-fn link(alloc: Global, operands: &[Word]) -> Result<Link, OutOfMemory>
-    requires values { HaveFaultlessValues operands.now }
-    ensures { IfOk result (HasLink operands.now) }
+fn link(alloc: Global, tested: Tested<'_>) -> Result<Link, OutOfMemory>
+    requires values { HaveFaultlessValues tested.command tested.operands.now }
+    ensures { IfOk result (HasLink tested.entry.operands.now) }
 {
-    let drops = ranges(alloc, value(Operand::Drop, operands))?;
-    let repeats = ranges(alloc, value(Operand::Repeat, operands))?;
-    let delays = delays(alloc, value(Operand::Delay, operands))?;
+    let drops = ranges(alloc, value(Operand::Drop, tested))?;
+    let repeats = ranges(alloc, value(Operand::Repeat, tested))?;
+    let delays = delays(alloc, value(Operand::Delay, tested))?;
     Ok(Link::make(alloc, drops, repeats, delays))
 }
 
@@ -195,27 +202,27 @@ fn delays(alloc: Global, text: &[u8]) -> Result<Delays, OutOfMemory>
 }
 
 // The value that the words give an operand, or its default.
-fn value<'a>(operand: Operand, operands: &'a [Word]) -> &'a [u8]
-    ensures { result.now ≡ value_for operand operands.now }
+fn value<'a>(operand: Operand, tested: Tested<'a>) -> &'a [u8]
+    ensures { result.now ≡ value_for operand tested.entry.operands.now }
 {
     let line = operand.line();
-    given(line.name, operands).unwrap_or(line.default)
+    given(line.name, tested.operands).unwrap_or(line.default)
 }
 
-fn number(operand: Operand, operands: &[Word]) -> u64
+fn number(operand: Operand, tested: Tested<'_>) -> u64
     requires numeric { IsTrue (is_numeric (table operand).form) }
-    requires default { value_fault (table operand).form (table operand).default ≡ None }
-    requires values { HaveFaultlessValues operands.now }
-    ensures number { result ≡ number_for operand operands.now }
+    requires default { value_fault tested.command (table operand).form (table operand).default ≡ None }
+    requires values { HaveFaultlessValues tested.command tested.operands.now }
+    ensures number { result ≡ number_for operand tested.entry.operands.now }
     ensures within { IsWithin (table operand).form result }
 {
-    spelled(operand, value(operand, operands))
+    spelled(operand, value(operand, tested))
 }
 
 // The number that a tested value spells.
 fn spelled(operand: Operand, value: &[u8]) -> u64
     requires numeric { IsTrue (is_numeric (table operand).form) }
-    requires faultless { value_fault (table operand).form value.now ≡ None }
+    requires faultless { number_fault (table operand).form value.now ≡ None }
     ensures number { result ≡ number_of value.now }
     ensures within { IsWithin (table operand).form result }
 {

@@ -50,7 +50,7 @@ pub(crate) fn test_operands(
     ensures ok { OnOk result (AreFaultless command operands.now) }
     ensures refused { IfErr result (IsFirstFaultBy command operands.now) }
 {
-    let choice = chosen(operands);
+    let choice = chosen(command, operands);
     for (place, word) in operands.iter().enumerate() {
         match test_operand(alloc, command, choice, &operands[..place], word.bytes()) {
             Ok(()) => {}
@@ -87,19 +87,20 @@ fn test_operand(
     if before.iter().any(|earlier| is_named(name, earlier.bytes())) {
         return Err(TestError::Refused(WordCause::Twice));
     }
-    test_given(alloc, before, operand, value)
+    test_given(alloc, command, before, operand, value)
 }
 
 // Tests the value that an operand is given.
 fn test_given(
     alloc: Global,
+    command: Command,
     before: &[Word],
     operand: Operand,
     value: &[u8],
 ) -> Result<(), TestError>
-    ensures { Tells (given_fault before.now operand value.now) result }
+    ensures { Tells (given_fault command before.now operand value.now) result }
 {
-    test_value(alloc, operand.line().form, value)?;
+    test_value(alloc, command, operand.line().form, value)?;
     test_other(before, operand, value)
 }
 
@@ -119,12 +120,12 @@ fn test_other(before: &[Word], operand: Operand, value: &[u8]) -> Result<(), Tes
 }
 
 // Tests a value for its form and range.
-fn test_value(alloc: Global, form: Form, value: &[u8]) -> Result<(), TestError>
+fn test_value(alloc: Global, command: Command, form: Form, value: &[u8]) -> Result<(), TestError>
     requires { IsOrdered form }
-    ensures { Tells (value_fault form value.now) result }
+    ensures { Tells (value_fault command form value.now) result }
 {
     match form {
-        Form::OneProgram => test_name(ProgramName::named(value).is_some()),
+        Form::OneProgram => test_name(ProgramName::named(command, value).is_some()),
         Form::FirstProgram => test_name(OneName::named(&FIRSTS, value).is_some()),
         Form::SecondProgram => test_name(OneName::named(&ONES, value).is_some()),
         Form::Number { least, greatest } => {

@@ -1,5 +1,5 @@
 ghost use Rattle.std.specs.Prelude.{◌≡◌};
-ghost use Rattle.scr_words.specs.Operands.{command_name, command_named, operand_named, table, taker_of, is_taken};
+ghost use Rattle.scr_words.specs.Operands.{command_name, command_named, knows, sprays, runs_cores, operand_named, table, taker_of, is_taken};
 
 use crate::program_name::{Choice, OneName, ProgramName};
 use crate::settings::Command;
@@ -15,7 +15,13 @@ const MOST_FRAMES: u64 = 1_000_000;
 
 const MOST_HOSTS: u64 = 65_536;
 
-const COMMANDS: [Command; 3] = [Command::Run, Command::Plain, Command::Load];
+const COMMANDS: [Command; 5] = [
+    Command::Run,
+    Command::Plain,
+    Command::Load,
+    Command::Spray,
+    Command::Replay,
+];
 
 /// What may stand before the first `=` of a word.
 #[derive(Clone, Copy)]
@@ -72,11 +78,13 @@ const OPERANDS: [Operand; 21] = [
 pub(crate) enum Taker {
     /// Each command.
     Every,
+    /// The commands that spray the frames of a capture over cores.
+    Spraying,
     /// The commands that run cores.
     WithCores,
     /// The command that makes up a capture.
     LoadAlone,
-    /// Each command, for one program.
+    /// Each command that knows this program, for it alone.
     Program(ProgramName),
 }
 
@@ -148,16 +156,11 @@ impl Operand {
                 number(1, u64::from(MOST_FLOWS)),
                 b"4096",
             ),
-            Operand::Cores => line(b"cores", Taker::WithCores, number(1, MOST_CORES), b"1"),
-            Operand::History => line(
-                b"history",
-                Taker::WithCores,
-                number(0, LONGEST_HISTORY),
-                b"",
-            ),
-            Operand::Drop => line(b"drop", Taker::WithCores, Form::DropList, b""),
-            Operand::Repeat => line(b"repeat", Taker::WithCores, Form::RepeatList, b""),
-            Operand::Delay => line(b"delay", Taker::WithCores, Form::DelayList, b""),
+            Operand::Cores => line(b"cores", Taker::Spraying, number(1, MOST_CORES), b"1"),
+            Operand::History => line(b"history", Taker::Spraying, number(0, LONGEST_HISTORY), b""),
+            Operand::Drop => line(b"drop", Taker::Spraying, Form::DropList, b""),
+            Operand::Repeat => line(b"repeat", Taker::Spraying, Form::RepeatList, b""),
+            Operand::Delay => line(b"delay", Taker::Spraying, Form::DelayList, b""),
             Operand::Ring => line(b"ring", Taker::WithCores, number(1, MOST_RING), b"1024"),
             Operand::Threads => line(b"threads", Taker::WithCores, Form::YesNo, b"yes"),
             Operand::Start => line(b"start", Taker::LoadAlone, number(0, u64::MAX), b"0"),
@@ -221,21 +224,52 @@ impl Command {
             Command::Run => b"run",
             Command::Plain => b"plain",
             Command::Load => b"load",
+            Command::Spray => b"spray",
+            Command::Replay => b"replay",
+        }
+    }
+
+    /// Whether a program may be named beside this command. A stream is of one of the five.
+    pub(crate) fn knows(self, program: ProgramName) -> bool
+        ensures { result ≡ knows self program }
+    {
+        match self {
+            Command::Run | Command::Plain | Command::Load => true,
+            Command::Spray | Command::Replay => program.is_of_five(),
+        }
+    }
+
+    fn sprays(self) -> bool
+        ensures { result ≡ sprays self }
+    {
+        match self {
+            Command::Run | Command::Load | Command::Spray => true,
+            Command::Plain | Command::Replay => false,
+        }
+    }
+
+    fn runs_cores(self) -> bool
+        ensures { result ≡ runs_cores self }
+    {
+        match self {
+            Command::Run | Command::Load | Command::Replay => true,
+            Command::Plain | Command::Spray => false,
         }
     }
 }
 
 impl Taker {
     /// Whether an operand with this taker is taken beside this command and what the words choose. Where no program is
-    /// chosen, the operands of each are.
+    /// chosen, the operands of each that the command knows are.
     pub(crate) fn is_met(self, command: Command, choice: Choice) -> bool
         ensures { result ≡ is_taken command choice self }
     {
         match self {
             Taker::Every => true,
-            Taker::WithCores => command != Command::Plain,
+            Taker::Spraying => command.sprays(),
+            Taker::WithCores => command.runs_cores(),
             Taker::LoadAlone => command == Command::Load,
-            Taker::Program(program) => choice.takes(program),
+            Taker::Program(program) => command.knows(program) && choice.takes(program),
         }
     }
 }

@@ -4,6 +4,7 @@ ghost use Rattle.scr_words.specs.WordParts.{has_equals, is_named, given, program
 
 use crate::operand::Operand;
 use crate::program_name::{Choice, FIRSTS, ONES, OneName, ProgramName};
+use crate::settings::Command;
 use scr_base::Word;
 
 /// The name and the value of a word: what stands in front of its first `=`, and what behind it.
@@ -34,21 +35,21 @@ pub(crate) fn given<'a>(name: &[u8], words: &'a [Word]) -> Option<&'a [u8]>
     Some(value)
 }
 
-/// What the words choose to run.
-pub(crate) fn chosen(words: &[Word]) -> Choice
-    ensures { result ≡ chosen words.now }
+/// What the words choose to run, beside a command.
+pub(crate) fn chosen(command: Command, words: &[Word]) -> Choice
+    ensures { result ≡ chosen command words.now }
 {
     Choice {
-        program: program_in(words),
+        program: program_in(command, words),
         first: first_in(words),
         second: second_in(words),
     }
 }
 
-fn program_in(words: &[Word]) -> Option<ProgramName>
-    ensures { result ≡ program_in words.now }
+fn program_in(command: Command, words: &[Word]) -> Option<ProgramName>
+    ensures { result ≡ program_in command words.now }
 {
-    ProgramName::named(given(Operand::Program.line().name, words)?)
+    ProgramName::named(command, given(Operand::Program.line().name, words)?)
 }
 
 fn first_in(words: &[Word]) -> Option<OneName>

@@ -1,6 +1,9 @@
-ghost use Rattle.std.specs.Prelude.{◌≡◌, true};
+ghost use Rattle.std.specs.Prelude.{◌≡◌, ◌&&◌, true};
+ghost use Rattle.std.specs.Str.{bytes_eq};
 ghost use Rattle.std.specs.Option.{option_map_or};
-ghost use Rattle.scr_words.specs.Operands.{one_name, one_named, program_name, program_named, is_in_chain, takes_those_of};
+ghost use Rattle.scr_words.specs.Operands.{one_name, one_named, program_name, program_named, knows, is_of_five, is_in_chain, takes_those_of};
+
+use crate::settings::Command;
 
 /// The five programs, as words name them.
 #[derive(Clone, Copy, PartialEq, Eq)]
@@ -81,13 +84,13 @@ impl OneName {
 }
 
 impl ProgramName {
-    /// The program with this name.
-    pub(crate) fn named(name: &[u8]) -> Option<ProgramName>
-        ensures { result ≡ program_named name.now }
+    /// The program with this name, of those that a command knows.
+    pub(crate) fn named(command: Command, name: &[u8]) -> Option<ProgramName>
+        ensures { result ≡ program_named command name.now }
     {
         PROGRAMS
             .iter()
-            .find(|program| program.name() == name)
+            .find(|program| program.is_known_as(command, name))
             .copied()
     }
 
@@ -98,6 +101,23 @@ impl ProgramName {
             ProgramName::One(one) => one.name(),
             ProgramName::Chain => b"chain",
             ProgramName::Table => b"table",
+        }
+    }
+
+    // Whether a command knows it by this name.
+    fn is_known_as(self, command: Command, name: &[u8]) -> bool
+        ensures { result ≡ (knows command self && bytes_eq (program_name self) name.now) }
+    {
+        command.knows(self) && self.name() == name
+    }
+
+    /// Whether it is one of the five.
+    pub(crate) fn is_of_five(self) -> bool
+        ensures { result ≡ is_of_five self }
+    {
+        match self {
+            ProgramName::One(_) => true,
+            ProgramName::Chain | ProgramName::Table => false,
         }
     }
 }

@@ -2,7 +2,7 @@ ghost use Rattle.std.specs.Prelude.{◌≡◌, ◌<◌, length, IfOk, IfErr};
 ghost use Rattle.scr_words.specs.GivenSettings.{AreAccepted};
 ghost use Rattle.scr_words.specs.WordTests.{AreRefusedBy};
 
-use crate::choosing::settings;
+use crate::choosing::{Tested, settings};
 use crate::faults::test_operands;
 use crate::settings::{Command, RunSettings};
 use crate::word_fault::{WordCause, WordFault};
@@ -43,7 +43,8 @@ pub fn read_words(alloc: Global, words: &[Word]) -> Result<RunSettings, WordsErr
         return Err(refused(1, WordCause::Command));
     };
     test_operands(alloc, command, operands)?;
-    settings(alloc, command, operands)?.ok_or(refused(words.len() as u32 + 1, WordCause::Missing))
+    let tested = Tested { command, operands };
+    settings(alloc, tested)?.ok_or(refused(words.len() as u32 + 1, WordCause::Missing))
 }
 
 fn refused(word: u32, cause: WordCause) -> WordsError

@@ -19,6 +19,10 @@ pub enum Command {
     Plain,
     /// Let cores take a capture that is made up.
     Load,
+    /// Read a capture, and write what the cores are delivered as a stream.
+    Spray,
+    /// Read such a stream, and let its cores give each frame a verdict.
+    Replay,
 }
 
 /// One of the five programs, with the numbers that are chosen for it.
@@ -51,7 +55,8 @@ pub enum ProgramSettings {
     Table(TableSettings),
 }
 
-/// How the frames of a run go to its cores.
+/// How the frames of a run go to its cores. A stream that is read says itself how many cores there are, what its frames
+/// carry and which of them are lost; the words tell nothing of that then, and these have their defaults.
 #[derive(Debug, Drop)]
 pub struct Shape {
     /// How many cores there are, from 1 to 16.
@@ -76,7 +81,7 @@ pub struct Shape {
 pub struct RunSettings {
     /// What to do.
     pub command: Command,
-    /// The program, with its numbers.
+    /// The program, with its numbers. To write or read a stream, it is one of the five.
     pub program: ProgramSettings,
     /// How frames go to the cores.
     pub shape: Shape,

@@ -173,6 +173,35 @@ fn takes_the_shape_of_a_run(rt: HostRuntime) -> Result<(), Fail> {
 }
 
 #[test]
+fn takes_the_words_of_a_stream(rt: HostRuntime) -> Result<(), Fail> {
+    let line =
+        "spray drop=2 cores=4 program=knock ports=1,2,3 repeat=5 delay=6:1 history=64 flows=9";
+    let settings = read(rt.alloc(), line).map_err(|_| "refused")?;
+    assert_eq!(rt; settings.command, Command::Spray);
+    let shape = settings.shape;
+    assert_eq!(rt; (shape.cores, shape.history), (4, 64));
+    assert_eq!(rt;
+        (shape.link.fate(2), shape.link.fate(5)),
+        (Fate::Lost, Fate::Twice { delay: 0 })
+    );
+    assert_eq!(rt; (shape.ring, shape.threads), (1024, true));
+    let settings = read(
+        rt.alloc(),
+        "replay threads=no program=ddos ring=7 threshold=3",
+    )
+    .map_err(|_| "refused")?;
+    assert_eq!(rt; settings.command, Command::Replay);
+    assert_eq!(rt; (settings.shape.ring, settings.shape.threads), (7, false));
+    assert_eq!(rt; (settings.shape.cores, settings.shape.history), (1, 0));
+    let (threshold, flows) = (3, 4096);
+    assert_eq!(rt;
+        one(settings.program),
+        Some(OneSettings::Ddos(DdosSettings { threshold, flows }))
+    );
+    Ok(())
+}
+
+#[test]
 fn takes_a_link(rt: HostRuntime) -> Result<(), Fail> {
     let line = "run delay=6:2,0005:1000 program=ddos repeat=4-6/2,5 drop=3,5-9/2";
     let settings = read(rt.alloc(), line).map_err(|_| "refused")?;

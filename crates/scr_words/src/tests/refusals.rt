@@ -20,13 +20,19 @@ pub(super) fn at(word: u32, cause: WordCause) -> Option<WordFault> {
 }
 
 /// Words, and the line that must come.
-const REFUSED: [(&str, &str); 31] = [
+const REFUSED: [(&str, &str); 37] = [
     ("", "scr: word 1: NoCommand\n"),
     ("walk", "scr: word 1: Command\n"),
     ("run", "scr: word 2: Missing\n"),
     ("run program=dns", "scr: word 2: Program\n"),
     ("run program=ddos -v", "scr: word 3: NoEquals\n"),
     ("run program=ddos color=red", "scr: word 3: UnknownName\n"),
+    ("spray rate=1", "scr: word 3: Missing\n"),
+    ("spray program=chain", "scr: word 2: Program\n"),
+    ("replay program=table", "scr: word 2: Program\n"),
+    ("spray program=ddos ring=1", "scr: word 3: NotHere\n"),
+    ("replay program=ddos cores=2", "scr: word 3: NotHere\n"),
+    ("replay program=ddos drop=0", "scr: word 3: NotHere\n"),
     ("run program=ddos rate=5", "scr: word 3: NotHere\n"),
     ("plain program=ddos drop=1", "scr: word 3: NotHere\n"),
     ("run program=ddos cores=2 cores=2", "scr: word 4: Twice\n"),
@@ -110,7 +116,7 @@ fn writes_the_line_of_each_refusal(rt: HostRuntime) -> Result<(), Fail> {
 }
 
 /// Lines with more than one fault, each beside the same with the faults in the other order, or with one of them mended.
-const SEVERAL: [(&str, u32, WordCause); 68] = [
+const SEVERAL: [(&str, u32, WordCause); 84] = [
     // A word without `=` and a name that no operand has.
     ("run -v color=red", 2, WordCause::NoEquals),
     ("run color=red -v", 2, WordCause::UnknownName),
@@ -276,6 +282,35 @@ const SEVERAL: [(&str, u32, WordCause); 68] = [
     ("run program=table rate=5", 3, WordCause::NotHere),
     ("run program=ddos table=", 3, WordCause::NotHere),
     ("run table=0:*>0/P", 3, WordCause::Missing),
+    // A stream is of one of the five: the name of another program chooses nothing, and its operands aren't taken.
+    (
+        "spray rate=1 threshold=2 ports=1,2,3 idle=4 bytes=5",
+        7,
+        WordCause::Missing,
+    ),
+    ("spray rate=1 program=chain", 3, WordCause::Program),
+    ("replay rate=x program=table", 2, WordCause::Value),
+    ("replay rate=1 program=ddos", 2, WordCause::NotHere),
+    ("spray first=ddos", 2, WordCause::NotHere),
+    ("spray second=ddos first=ddos", 2, WordCause::NotHere),
+    ("replay table=", 2, WordCause::NotHere),
+    ("spray program=table table=", 2, WordCause::Program),
+    ("spray program=dns program=ddos", 2, WordCause::Program),
+    ("spray program=ddos program=chain", 3, WordCause::Twice),
+    // What only one of the two takes, and what neither does.
+    ("spray program=ddos threads=no", 3, WordCause::NotHere),
+    ("replay program=ddos history=x", 3, WordCause::NotHere),
+    ("replay ring=0 delay=0", 2, WordCause::Range),
+    (
+        "spray delay=0 ring=0",
+        2,
+        WordCause::Delay {
+            cause: DelayCause::Digit,
+            place: 0,
+        },
+    ),
+    ("replay program=ddos start=1", 3, WordCause::NotHere),
+    ("spray program=ddos frames=1", 3, WordCause::NotHere),
     ("run table=0:*>0/P table=", 3, WordCause::Twice),
     (
         "run table=0:*>0/P,0:*>0/X flows=0",

@@ -10,4 +10,4 @@ use Rattle.scr_crew.proofs.work.start_all.Given as goal
 abbrev pub invariant-loop-worker : goal.invariant-loop-worker
 invariant-loop-worker g l =
     OfCores (IsThread l.settings l.plan) (length l.started.items) l.started.items
-    × Coming (IsWorker l.logs) (length l.started.items) (length l.fn.workers.items) (into_iter_items l.worker-iterator)
+    × Coming (IsWorker (g.P.Program.verdict_after l.settings) l.logs) (length l.started.items) (length l.fn.workers.items) (into_iter_items l.worker-iterator)

@@ -7,6 +7,6 @@ use Rattle.scr_replica.proofs.worker.go_through.Given as goal
 abbrev pub invariant-loop : goal.invariant-loop
 invariant-loop g l = record {
   can_go : (goal.iterator-loop g).can_next l.iterator' × (goal.iterator-loop g).is_finite l.iterator';
-  way : IsOnItsWay (g.P.Program.StandsFor l.settings) (g.P.Program.verdict_after l.settings) l.fn.replica.pass l.replica l.verdicts.items;
+  way : IsOnItsWay (g.P.Program.StandsFor l.settings) (g.P.Program.verdict_after l.settings) (g.O.Outlet.Awaits l.outlet) l.fn.replica.pass l.replica;
   running : l.replica.standing ≡ standing.Running;
 }

@@ -1,4 +1,4 @@
-use Rattle.std.proofs.Common.{◌≡◌, Option, ◌++◌, ◌∷◌, [], List, length, ◌∙◌, ap, arith, sym, refl}
+use Rattle.std.proofs.Common.{Option, ◌++◌, ◌∷◌, [], List, length, ◌∙◌, ap, arith, refl}
 use Rattle.scr_base.specs.declared.row.Row.{Row}
 use Rattle.scr_frame.specs.Fields.{fields}
 use Rattle.scr_pcap.specs.declared.reader.RecordInfo.{RecordInfo}
@@ -6,7 +6,7 @@ use Rattle.scr_pcapng.specs.declared.any.AnyReader.{AnyReader}
 use Rattle.std.proofs.lemmas.Result.{err_from_is_err_and}
 use Rattle.scr_pcapng.proofs.Joining.{begin-named, next-named}
 use Rattle.scr_run.proofs.Ending.{StopsReading-from, StopsReading-want}
-use Rattle.scr_run.proofs.Progress.{HasTaken-none, HasTaken-end, HasTaken-fault, HasTaken-more, length-rows_of}
+use Rattle.scr_run.proofs.Progress.{HasTaken-none, HasTaken-fault, HasTaken-more, length-rows_of}
 use Rattle.scr_run.proofs.engine.rows_read.Goals as goal
 
 pub loop-rows-init : goal.loop-rows-init

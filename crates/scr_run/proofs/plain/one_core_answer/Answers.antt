@@ -1,4 +1,4 @@
-use Rattle.std.proofs.Common.{◌≡◌, Option, ◌++◌, ◌∷◌, [], List, All, ◌<◌, length, ◌∙◌, ap, arith, sym, subst, refl}
+use Rattle.std.proofs.Common.{Option, ◌++◌, ◌∷◌, [], List, All, ◌<◌, length, ◌∙◌, ap, arith, sym, subst, refl}
 use Rattle.scr_plan.specs.declared.given.Given.{Given}
 use Rattle.scr_frame.specs.Fields.{fields}
 use Rattle.scr_replica.specs.OneCore.{undivided}
@@ -10,7 +10,7 @@ use Rattle.scr_pcapng.specs.declared.any.AnyReader.{AnyReader}
 use Rattle.std.proofs.lemmas.Result.{err_from_is_err_and}
 use Rattle.scr_pcapng.proofs.Joining.{begin-named, next-named}
 use Rattle.scr_run.proofs.Ending.{StopsReading-from, StopsReading-want}
-use Rattle.scr_run.proofs.Progress.{HasTaken-none, HasTaken-end, HasTaken-fault, HasTaken-more, length-rows_of}
+use Rattle.scr_run.proofs.Progress.{HasTaken-none, HasTaken-fault, HasTaken-more, length-rows_of}
 use Rattle.scr_run.proofs.plain.one_core_answer.Goals as goal
 
 pub loop-core-init : goal.loop-core-init

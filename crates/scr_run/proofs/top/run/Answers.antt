@@ -1,6 +1,6 @@
 use Rattle.std.proofs.lemmas.Result.{err_from_is_err_and}
 use Rattle.scr_run.specs.Ends.{ended}
-use Rattle.scr_run.proofs.Main.{Ends-of_words, Ends-of_refusal, without-capture}
+use Rattle.scr_run.proofs.Main.{Ends-of_words, Ends-of_refusal, without-input, runs-accepted}
 use Rattle.scr_run.proofs.top.run.Goals as goal
 
 pub returns-in_err-chosen-clause-ends : goal.returns-in_err-chosen-clause-ends
@@ -16,4 +16,7 @@ returns-clause-ends g c =
 
 pub returns-clause-unread : goal.returns-clause-unread
 returns-clause-unread g c = λ none.
-    without-capture c.args.words.now c.in_ok-chosen.chosen c.in_ok-chosen.ensures.accepted _ c.run_chosen.ensures.unread none
+    without-input c.args.words.now c.in_ok-chosen.chosen c.in_ok-chosen.ensures.accepted _ c.run_chosen.ensures.unread none
+
+pub run_chosen-requires-clause-known : goal.run_chosen-requires-clause-known
+run_chosen-requires-clause-known g c κs within = runs-accepted c.args.words.now c.in_ok-chosen.chosen c.in_ok-chosen.ensures.accepted

@@ -7,10 +7,10 @@ pub returns-in_err-choice : goal.returns-in_err-choice
 returns-in_err-choice c =
     let is = ap (λ (choice : Choice). choice.program) (sym c.requires.choice) ∙ c.requires.program in
     let none = ap (λ (choice : Choice). choice.first) (sym c.requires.choice) ∙ c.in_err-choice.was in
-    rw c.from_residual.ensures (lacks-first c.args.operands.now c.requires.values is none)
+    rw c.from_residual.ensures (lacks-first c.args.tested.command c.args.tested.operands.now c.requires.values is none)
 
 pub returns-in_err-choice-2 : goal.returns-in_err-choice-2
 returns-in_err-choice-2 c =
     let is = ap (λ (choice : Choice). choice.program) (sym c.requires.choice) ∙ c.requires.program in
     let none = ap (λ (choice : Choice). choice.second) (sym c.requires.choice) ∙ c.in_err-choice-2.was in
-    rw c.from_residual-in_err-choice-2.ensures (lacks-second c.args.operands.now c.requires.values is none)
+    rw c.from_residual-in_err-choice-2.ensures (lacks-second c.args.tested.command c.args.tested.operands.now c.requires.values is none)

@@ -8,8 +8,8 @@ use Rattle.scr_words.proofs.choosing.table_settings.Goals as goal
 
 pub unreachable-requires : goal.unreachable-requires
 unreachable-requires c =
-    let found : given (table Table).name c.args.operands.now ≡ Some c.in-Some.text.now =
-    ap (λ (name : List ℕ). given name c.args.operands.now) (sym c.line.ensures.name) ∙ sym c.given.ensures ∙ ap option_copied c.in-Some.is in
+    let found : given (table Table).name c.args.tested.operands.now ≡ Some c.in-Some.text.now =
+    ap (λ (name : List ℕ). given name c.args.tested.operands.now) (sym c.line.ensures.name) ∙ sym c.given.ensures ∙ ap option_copied c.in-Some.is in
     let refused = rw c.in-Err-Refused.field-0-is at c.in-Err-Refused.ensures in
     let fault = table_fault-refused c.in-Some.text.now c.in-Err-Refused.field-0-0 c.in-Err-Refused.field-0-1 refused in
     absurd (cc (c.requires.values Table c.in-Some.text.now found, fault))

@@ -48,7 +48,7 @@ returns c =
     (YieldsList-from_slice c.args.before.now c.iter.ensures.rest) (λ x b q k. search (rules, tests)) in
     let once : list_any (is_named (name_in c.args.word.now)) c.args.before.now ≡ false =
     ap (λ (name : List ℕ). list_any (is_named name) c.args.before.now) (sym c.in-Some.ensures.front_is) ∙ sym again ∙ c.if-any.false in
-    let value : given_fault c.args.before.now c.in-Some-named.operand c.in-Some.value.now ≡ given_fault c.args.before.now c.in-Some-named.operand (value_in c.args.word.now) =
-    ap (given_fault c.args.before.now c.in-Some-named.operand) c.in-Some.ensures.back_is in
+    let value : given_fault c.args.command c.args.before.now c.in-Some-named.operand c.in-Some.value.now ≡ given_fault c.args.command c.args.before.now c.in-Some-named.operand (value_in c.args.word.now) =
+    ap (given_fault c.args.command c.args.before.now c.in-Some-named.operand) c.in-Some.ensures.back_is in
     let whole = fault-of_value c.args.command c.args.choice c.args.before.now c.args.word.now c.in-Some-named.operand c.in-Some.ensures.has known here once in
     subst (λ (fault : Option WordCause). Tells fault c.test_given.result) (value ∙ sym whole) c.test_given.ensures

@@ -14,7 +14,11 @@ use Rattle.scr_replica.specs.Replicas.{Replica, at_hand, asked}
 use Rattle.scr_replica.specs.Turns.{WaitsFor}
 use Rattle.scr_replica.specs.Stages.{replica_of, Keeps, HasOnlyLooked}
 use Rattle.scr_replica.proofs.Packets.{known-kept}
-use Rattle.scr_replica.proofs.WholeTurns.{going, hand-small, hand-in-run, looked-not, looked-one, keeps-more_looks, keeps-lost, turn-rests, all-lost}
+use Rattle.scr_replica.proofs.Looking.{looked-not, looked-one}
+use Rattle.scr_replica.proofs.AtHand.{going, hand-small, hand-in-run}
+use Rattle.scr_replica.proofs.Keeping.{keeps-more_looks, keeps-lost}
+use Rattle.scr_replica.proofs.WholeTurns.{turn-rests}
+use Rattle.scr_replica.proofs.Asking.{all-lost}
 use Rattle.scr_replica.proofs.replica.Replica.ask.Goals as goal
 
 tag-below : (found tag p hand : ℕ) → found ≡ tag → tag_number tag < p → p ≡ hand → tag_number found < hand

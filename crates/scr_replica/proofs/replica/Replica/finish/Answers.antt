@@ -12,7 +12,9 @@ use Rattle.scr_replica.specs.Replicas.{Replica, Stands, at_hand}
 use Rattle.scr_replica.specs.Stages.{replica_of, Keeps, HasOnlyLooked, IsTurn}
 use Rattle.scr_replica.proofs.Packets.{is_some-kept_row}
 use Rattle.scr_replica.proofs.Taking.{is_some-copied, counts_few, counts-more}
-use Rattle.scr_replica.proofs.WholeTurns.{going, hand-small, hand-in-run, keeps-finished, finishes}
+use Rattle.scr_replica.proofs.AtHand.{going, hand-small, hand-in-run}
+use Rattle.scr_replica.proofs.Keeping.{keeps-finished}
+use Rattle.scr_replica.proofs.WholeTurns.{finishes}
 use Rattle.scr_replica.proofs.replica.Replica.finish.Goals as goal
 
 pub overflow_add-p : goal.overflow_add-p

@@ -3,7 +3,8 @@ use Rattle.scr_replica.specs.OneCore.{kept_row}
 use Rattle.scr_replica.specs.Replicas.{Replica, at_hand}
 use Rattle.scr_replica.specs.Stages.{replica_of}
 use Rattle.scr_replica.proofs.Packets.{known-kept}
-use Rattle.scr_replica.proofs.WholeTurns.{hand-in-run, looked-not}
+use Rattle.scr_replica.proofs.Looking.{looked-not}
+use Rattle.scr_replica.proofs.AtHand.{hand-in-run}
 use Rattle.scr_replica.proofs.replica.Replica.go_on.Goals as goal
 
 pub finish-requires-clause-kept : goal.finish-requires-clause-kept

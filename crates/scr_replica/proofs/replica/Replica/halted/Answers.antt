@@ -2,7 +2,7 @@ use Rattle.std.proofs.Common.{◌∷◌, ◌++◌, [], sym, subst}
 use Rattle.scr_log.specs.declared.view.Noted.TheVariants.{Halt}
 use Rattle.scr_log.specs.Passes.{OfCore}
 use Rattle.scr_replica.specs.Stages.{replica_of, Keeps}
-use Rattle.scr_replica.proofs.WholeTurns.{keeps-more_looks}
+use Rattle.scr_replica.proofs.Keeping.{keeps-more_looks}
 use Rattle.scr_replica.proofs.replica.Replica.halted.Goals as goal
 
 pub invariant_of-self : goal.invariant_of-self

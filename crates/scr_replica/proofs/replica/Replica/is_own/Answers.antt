@@ -2,7 +2,7 @@ use Rattle.std.proofs.Common.{◌≡◌, ◌+◌, Bool, ◌&&◌, eqb, sym, ap, 
 use Rattle.scr_plan.specs.Delivered.{delivers_to}
 use Rattle.scr_replica.specs.Replicas.{Replica, at_hand}
 use Rattle.scr_replica.specs.Stages.{replica_of}
-use Rattle.scr_replica.proofs.WholeTurns.{own-here}
+use Rattle.scr_replica.proofs.AtHand.{own-here}
 use Rattle.scr_replica.proofs.replica.Replica.is_own.Goals as goal
 
 pub returns-then-is_some : goal.returns-then-is_some

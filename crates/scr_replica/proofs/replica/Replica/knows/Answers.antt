@@ -2,7 +2,7 @@ use Rattle.std.proofs.Common.{◌≡◌, sym, ap, subst, ◌∙◌}
 use Rattle.scr_plan.specs.Kept.{carries_to}
 use Rattle.scr_replica.specs.Replicas.{Replica, at_hand}
 use Rattle.scr_replica.specs.Stages.{replica_of}
-use Rattle.scr_replica.proofs.WholeTurns.{knows-here}
+use Rattle.scr_replica.proofs.AtHand.{knows-here}
 use Rattle.scr_replica.proofs.replica.Replica.knows.Goals as goal
 
 pub returns : goal.returns

@@ -3,7 +3,7 @@ use Rattle.scr_base.specs.declared.row.Row.{Row}
 use Rattle.scr_log.specs.Passes.{LogsOf, IsLogs}
 use Rattle.scr_replica.specs.OneCore.{kept_rows}
 use Rattle.scr_replica.proofs.Taking.{kept_rows-zero}
-use Rattle.scr_replica.proofs.WholeTurns.{keeps-begin}
+use Rattle.scr_replica.proofs.Keeping.{keeps-begin}
 use Rattle.scr_replica.proofs.replica.Replica.make.Goals as goal
 
 pub invariant_of-result : goal.invariant_of-result

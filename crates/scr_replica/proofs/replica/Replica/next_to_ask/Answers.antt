@@ -1,7 +1,7 @@
 use Rattle.std.proofs.Common.{◌≡◌, sym, subst, arith}
 use Rattle.scr_replica.specs.Replicas.{Replica, at_hand}
 use Rattle.scr_replica.specs.Stages.{replica_of}
-use Rattle.scr_replica.proofs.WholeTurns.{few-hand}
+use Rattle.scr_replica.proofs.AtHand.{few-hand}
 use Rattle.scr_replica.proofs.replica.Replica.next_to_ask.Goals as goal
 
 pub overflow_add-p : goal.overflow_add-p

@@ -3,7 +3,8 @@ use Rattle.scr_wire.specs.Lane.{decided}
 use Rattle.scr_log.specs.Passes.{LogsOf, OfCore}
 use Rattle.scr_replica.specs.Replicas.{Replica, at_hand}
 use Rattle.scr_replica.specs.Stages.{replica_of, Keeps}
-use Rattle.scr_replica.proofs.WholeTurns.{going, few-hand, within-run, keeps-looks, keeps-published}
+use Rattle.scr_replica.proofs.AtHand.{going, few-hand, within-run}
+use Rattle.scr_replica.proofs.Keeping.{keeps-looks, keeps-published}
 use Rattle.scr_replica.proofs.replica.Replica.publish.Goals as goal
 
 pub overflow_add-p : goal.overflow_add-p

@@ -4,7 +4,9 @@ use Rattle.scr_lane.specs.Messages.{Route, SpellsMessage}
 use Rattle.scr_lane.specs.Ends.{End, moved}
 use Rattle.scr_replica.specs.Replicas.{Replica}
 use Rattle.scr_replica.specs.Stages.{replica_of, Keeps}
-use Rattle.scr_replica.proofs.WholeTurns.{going, looked-lane, through-all, keeps-ended, keeps-taken}
+use Rattle.scr_replica.proofs.Looking.{looked-lane}
+use Rattle.scr_replica.proofs.AtHand.{going}
+use Rattle.scr_replica.proofs.Keeping.{through-all, keeps-ended, keeps-taken}
 use Rattle.scr_replica.proofs.replica.Replica.take.Goals as goal
 
 pub invariant_of-self : goal.invariant_of-self
@@ -15,6 +17,9 @@ invariant_of-self g c =
     let all = subst (λ (r : Replica _). r.pass.finished ≡ decided r.pass.logs.plan r.pass.core r.lane.count) (sym c.self.view_is) c.requires.through in
     keeps-ended it me.heard me.row me.finished me.cores me.history was
     (through-all it me.heard me.row me.finished me.cores me.history was (sym c.is_whole.ensures ∙ c.if-is_whole.true) all)
+
+pub take-requires : goal.take-requires
+take-requires g c = let fits = c.pop-packet.ensures.item in (fits.message, fits.spells)
 
 pub invariant_of-self-2 : goal.invariant_of-self-2
 invariant_of-self-2 g c =

@@ -6,7 +6,8 @@ use Rattle.scr_replica.specs.declared.turn.Turn.TheVariants.{Waiting, Halted}
 use Rattle.scr_replica.specs.Replicas.{Replica}
 use Rattle.scr_replica.specs.Turns.{WaitsFor}
 use Rattle.scr_replica.specs.Stages.{replica_of, Keeps, HasOnlyLooked, Rests}
-use Rattle.scr_replica.proofs.WholeTurns.{keeps-looks, keeps-more_looks, waits-on, waits-halted}
+use Rattle.scr_replica.proofs.Looking.{waits-on, waits-halted}
+use Rattle.scr_replica.proofs.Keeping.{keeps-looks, keeps-more_looks}
 use Rattle.scr_replica.proofs.replica.Replica.wait.Goals as goal
 
 pub invariant_of-self : goal.invariant_of-self
