@@ -50,12 +50,17 @@ def broken(program):
         yield "both outputs on a full device", difference(found, Outcome(4, b"", b""), RUN)
 
 
+def interruptible():
+    """Undoes that a job in the background ignores interrupts, as the tests may be one."""
+    signal.signal(signal.SIGINT, signal.SIG_DFL)
+
+
 def interrupted(program):
     """Ctrl-C ends what writes the capture, where the program ignores it, and brings the report."""
     with file_of(FOUR) as file:
         shell = "(cat; echo written >&2; sleep 60) | (trap '' INT; exec \"$@\")"
         with subprocess.Popen(["sh", "-c", shell, "sh", program, *RUN], stdin=file, stdout=subprocess.PIPE, stderr=subprocess.PIPE,
-                              start_new_session=True) as process:
+                              start_new_session=True, preexec_fn=interruptible) as process:
             process.stderr.readline()
             os.killpg(process.pid, signal.SIGINT)
             out, _ = process.communicate(timeout=60)

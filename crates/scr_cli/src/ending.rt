@@ -2,7 +2,7 @@ ghost use Rattle.std.specs.Prelude.{◌≡◌, ◌<◌, ◌-◌, ◌^◌, length
 ghost use Rattle.std.specs.Result.{ForOk};
 ghost use Rattle.std.specs.Io.KnownBytes.{IsAtEnd};
 ghost use Rattle.scr_run.specs.declared.status.Status.{Status};
-ghost use Rattle.scr_run.specs.Asked.{IsAsked, TakeCapture};
+ghost use Rattle.scr_run.specs.Asked.{IsAsked, TakeInput};
 ghost use Rattle.scr_run.specs.Ends.{Ends};
 ghost use Rattle.scr_run.specs.FaultLines.{code_of, fault_line, want_code, want_line, IsTold};
 
@@ -27,7 +27,7 @@ pub fn ended<S: Source, O: Sink, E: Sink, R: Threads + Wait + Sync>(
 
     // Over words: a run, as the contract of `scr_main` says, its line, and its code.
     ensures run { IfOk words (λ words. (status : Status) × (result ≡ code_of status)
-        × Ends (IsAsked words.items (S.left capture.old)) (TakeCapture words.items) (TakeCapture words.items → IsAtEnd (S.left capture.new))
+        × Ends (IsAsked words.items (S.left capture.old)) (TakeInput words.items) (TakeInput words.items → IsAtEnd (S.left capture.new))
         O.written (S.faults capture.old) (S.faults capture.new) O.faults O.wants out.old out.new status
         × IsTold E.written E.faults E.wants err.old err.new (fault_line status)) }
 
