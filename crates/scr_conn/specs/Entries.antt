@@ -10,7 +10,7 @@ use Rattle.scr_conn.specs.declared.table.Direction.{Direction}
 use Rattle.scr_conn.specs.declared.table.Direction.TheVariants.{Near, Far}
 use Rattle.scr_conn.specs.Endpoints.{sender_of}
 use Rattle.scr_conn.specs.Flags.{class_of}
-use Rattle.scr_conn.specs.Transitions.{table}
+use Rattle.scr_conn.specs.Transitions.{transition}
 
 -- how long ago the last packet was: 0 where time went back
 abbrev pub elapsed : Entry → ℕ → ℕ
@@ -33,8 +33,8 @@ direction_of High High = Near
 
 -- the cell of the table for an entry, or none, and a packet of this sender and these flags
 abbrev pub cell_for : Option Entry → Side → ℕ → Cell
-cell_for None sender flags = table None Near (class_of flags)
-cell_for (Some entry) sender flags = table (Some entry.state) (direction_of entry.side sender) (class_of flags)
+cell_for None sender flags = transition None Near (class_of flags)
+cell_for (Some entry) sender flags = transition (Some entry.state) (direction_of entry.side sender) (class_of flags)
 
 -- The entry that a cell makes of an entry, or of none. The side becomes the sender at a star, and where there was no
 -- entry. The time becomes the greater of both.

@@ -23,17 +23,17 @@ cells reset syn_ack syn fin ack Unmarked = Invalid
 -- The rows, by the state, or none, and by whether the sender is the entry's side (near) or the other end (far). Their
 -- cells are those of RST, SYN with ACK, SYN, FIN and ACK, in this order. At a star the sender becomes the side;
 -- elsewhere the side stays.
-abbrev pub table : Option State → Direction → Class → Cell
-table None _ = cells Invalid Invalid (Starred SynSent) Invalid Invalid
-table (Some SynSent) Near = cells (Plain Closed) Invalid (Plain SynSent) Invalid Invalid
-table (Some SynSent) Far = cells (Plain Closed) (Plain SynRecv) Invalid Invalid Invalid
-table (Some SynRecv) Near = cells (Plain Closed) Invalid (Plain SynRecv) (Starred FinWait) (Plain Established)
-table (Some SynRecv) Far = cells (Plain Closed) (Plain SynRecv) Invalid (Starred FinWait) (Plain SynRecv)
-table (Some Established) Near = cells (Plain Closed) Invalid Invalid (Starred FinWait) (Plain Established)
-table (Some Established) Far = cells (Plain Closed) (Plain Established) Invalid (Starred FinWait) (Plain Established)
-table (Some FinWait) Near = cells (Plain Closed) Invalid Invalid (Plain FinWait) (Plain FinWait)
-table (Some FinWait) Far = cells (Plain Closed) Invalid Invalid (Plain LastAck) (Plain FinWait)
-table (Some LastAck) Near = cells (Plain Closed) Invalid Invalid (Plain LastAck) (Plain TimeWait)
-table (Some LastAck) Far = cells (Plain Closed) Invalid Invalid (Plain LastAck) (Plain LastAck)
-table (Some TimeWait) _ = cells (Plain Closed) Invalid (Starred SynSent) (Plain TimeWait) (Plain TimeWait)
-table (Some Closed) _ = cells (Plain Closed) Invalid (Starred SynSent) Invalid Invalid
+abbrev pub transition : Option State → Direction → Class → Cell
+transition None _ = cells Invalid Invalid (Starred SynSent) Invalid Invalid
+transition (Some SynSent) Near = cells (Plain Closed) Invalid (Plain SynSent) Invalid Invalid
+transition (Some SynSent) Far = cells (Plain Closed) (Plain SynRecv) Invalid Invalid Invalid
+transition (Some SynRecv) Near = cells (Plain Closed) Invalid (Plain SynRecv) (Starred FinWait) (Plain Established)
+transition (Some SynRecv) Far = cells (Plain Closed) (Plain SynRecv) Invalid (Starred FinWait) (Plain SynRecv)
+transition (Some Established) Near = cells (Plain Closed) Invalid Invalid (Starred FinWait) (Plain Established)
+transition (Some Established) Far = cells (Plain Closed) (Plain Established) Invalid (Starred FinWait) (Plain Established)
+transition (Some FinWait) Near = cells (Plain Closed) Invalid Invalid (Plain FinWait) (Plain FinWait)
+transition (Some FinWait) Far = cells (Plain Closed) Invalid Invalid (Plain LastAck) (Plain FinWait)
+transition (Some LastAck) Near = cells (Plain Closed) Invalid Invalid (Plain LastAck) (Plain TimeWait)
+transition (Some LastAck) Far = cells (Plain Closed) Invalid Invalid (Plain LastAck) (Plain LastAck)
+transition (Some TimeWait) _ = cells (Plain Closed) Invalid (Starred SynSent) (Plain TimeWait) (Plain TimeWait)
+transition (Some Closed) _ = cells (Plain Closed) Invalid (Starred SynSent) Invalid Invalid

@@ -1,5 +1,5 @@
 ghost use Rattle.std.specs.Prelude.{◌≡◌};
-ghost use Rattle.scr_conn.specs.Transitions.{table};
+ghost use Rattle.scr_conn.specs.Transitions.{transition};
 
 use crate::class::Class;
 use crate::entry::State;
@@ -24,7 +24,7 @@ pub(crate) enum Cell {
 
 /// The cell of a state, or of none, for a packet of this direction and class.
 pub(crate) fn cell_of(state: Option<State>, direction: Direction, class: Class) -> Cell
-    ensures { result ≡ table state direction class }
+    ensures { result ≡ transition state direction class }
 {
     match (state, direction, class) {
         (_, _, Class::SynFin | Class::Unmarked) => Cell::Invalid,

@@ -9,7 +9,7 @@ use Rattle.scr_base.specs.declared.row.Row.{Row}
 use Rattle.scr_base.specs.declared.row.Verdict.{Verdict}
 use Rattle.scr_plan.specs.declared.given.Given.{Given}
 use Rattle.scr_plan.specs.Delivered.{delivers_to, core_number, delivers}
-use Rattle.scr_plan.specs.Plan.{Plan, frame_count, row_of}
+use Rattle.scr_plan.specs.Plan.{Plan, frame_count, row_of_packet}
 use Rattle.scr_lane.specs.Ends.{End, FoundNothing}
 use Rattle.scr_replica.specs.OneCore.{given_with, given_at, given_to, verdicts, course_up_to}
 use Rattle.scr_replica.proofs.InOrder.{rest, rest-other, taken, passed}
@@ -102,13 +102,13 @@ module _ (verdict_after : List Row → Row → Verdict) (plan : Plan) where
     unfolding course_from
     course-none core lost =
         from-here (given_to verdict_after plan core)
-        ∙ ap (λ (b : Bool). cons_option (cond b (option_map (given_with verdict_after plan n) (row_of plan n)) None) (filter_map (given_to verdict_after plan core) (range_with_len (n + 1) (frame_count plan + 1 - (n + 1))))) (not-to core lost)
+        ∙ ap (λ (b : Bool). cons_option (cond b (option_map (given_with verdict_after plan n) (row_of_packet plan n)) None) (filter_map (given_to verdict_after plan core) (range_with_len (n + 1) (frame_count plan + 1 - (n + 1))))) (not-to core lost)
 
     module _ (lists : List (List Given)) (coming : AreToCome verdict_after plan (record { next = n; to_come = lists })) where
       -- no verdict of the frame comes: it isn't delivered
       pub absent : delivers plan n ≡ false → (verdicts_from verdict_after plan n ≡ verdicts_from verdict_after plan (n + 1)) × AreToCome verdict_after plan (record { next = n + 1; to_come = lists })
       absent lost = (
-        verdicts-here None (ap (λ (b : Bool). cond b (option_map (given_with verdict_after plan n) (row_of plan n)) None) lost),
+        verdicts-here None (ap (λ (b : Bool). cond b (option_map (given_with verdict_after plan n) (row_of_packet plan n)) None) lost),
         record {
           from = omega arith;
           to = omega arith;

@@ -12,8 +12,8 @@ use Rattle.scr_frame.specs.declared.parsed.Kind.TheVariants.{Other, Bare, Tcp, U
 use Rattle.scr_frame.specs.declared.parsed.Parsed.{Parsed}
 
 -- the number of a width that stands in network order from a place on
-abbrev pub number_at : Width → ℕ → List ℕ → ℕ
-number_at w place bytes = from_be_bytes w (take (byte_len w) (drop place bytes))
+abbrev pub network_number : Width → ℕ → List ℕ → ℕ
+network_number w place bytes = from_be_bytes w (take (byte_len w) (drop place bytes))
 
 -- a frame without an IP packet that can be read
 abbrev pub other : Parsed
@@ -34,9 +34,9 @@ other = record {
 unfoldable pub ethernet : List ℕ → Option (ℕ × List ℕ)
 ethernet frame =
     if nat_lt (length frame) ETHERNET_HEADER then None else
-    (if number_at w16 12 frame == TYPE_TAG
-    then (if nat_lt (length frame) TAGGED_HEADER then None else Some (number_at w16 16 frame, drop TAGGED_HEADER frame))
-    else Some (number_at w16 12 frame, drop ETHERNET_HEADER frame))
+    (if network_number w16 12 frame == TYPE_TAG
+    then (if nat_lt (length frame) TAGGED_HEADER then None else Some (network_number w16 16 frame, drop TAGGED_HEADER frame))
+    else Some (network_number w16 12 frame, drop ETHERNET_HEADER frame))
 
 -- the length that a header tells, unless its field is 0, which stands for the captured bytes
 abbrev pub told_or_captured : ℕ → ℕ → List ℕ → ℕ
@@ -48,16 +48,16 @@ told_or_captured field told bytes = if field == 0 then length bytes else told
 unfoldable pub ipv4 : List ℕ → Option Packet
 ipv4 bytes =
     let words = slice_index bytes 0 % 16 in
-    let total = number_at w16 2 bytes in
+    let total = network_number w16 2 bytes in
     let packet_length = told_or_captured total total bytes in
     if nat_le IPV4_HEADER (length bytes) && (slice_index bytes 0 / 16 == 4) && nat_le IPV4_WORDS words
     && nat_le (4 * words) (length bytes) && nat_le (4 * words) packet_length
     then Some (record {
       family = 0;
-      source = number_at w32 12 bytes;
-      destination = number_at w32 16 bytes;
+      source = network_number w32 12 bytes;
+      destination = network_number w32 16 bytes;
       protocol = slice_index bytes 9;
-      fragment = number_at w16 6 bytes % 8192;
+      fragment = network_number w16 6 bytes % 8192;
       header = 4 * words;
       length = packet_length;
     })
@@ -70,12 +70,12 @@ ipv6 bytes =
     if nat_le IPV6_HEADER (length bytes) && (slice_index bytes 0 / 16 == 6)
     then Some (record {
       family = 1;
-      source = number_at w128 8 bytes;
-      destination = number_at w128 24 bytes;
+      source = network_number w128 8 bytes;
+      destination = network_number w128 24 bytes;
       protocol = slice_index bytes 6;
       fragment = 0;
       header = IPV6_HEADER;
-      length = told_or_captured (number_at w16 4 bytes) (IPV6_HEADER + number_at w16 4 bytes) bytes;
+      length = told_or_captured (network_number w16 4 bytes) (IPV6_HEADER + network_number w16 4 bytes) bytes;
     })
     else None
 
@@ -114,9 +114,9 @@ unfoldable pub transport : Packet → List ℕ → Parsed
 transport packet bytes =
     let header = drop packet.header bytes in
     if has_tcp packet bytes
-    then with_transport Tcp packet (number_at w16 0 header) (number_at w16 2 header) (slice_index header 13)
+    then with_transport Tcp packet (network_number w16 0 header) (network_number w16 2 header) (slice_index header 13)
     else (if has_udp packet bytes
-    then with_transport Udp packet (number_at w16 0 header) (number_at w16 2 header) 0
+    then with_transport Udp packet (network_number w16 0 header) (network_number w16 2 header) 0
     else with_transport Bare packet 0 0 0)
 
 -- the fields of an IP packet, where there is one

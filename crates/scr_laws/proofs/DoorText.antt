@@ -2,7 +2,7 @@
 use Rattle.std.proofs.Common.{◌≡◌, ℕ, zero, suc, ◌<◌, ◌≤◌, ◌==◌, false, List, Ok, length, get_or, refl, arith}
 use Rattle.std.proofs.lemmas.Bool.Decides.{nat_tests}
 use Rattle.scr_tables.specs.Rules.{lacks_any}
-use Rattle.scr_tables.specs.Spelling.{Spells, SpellsRules, read_at}
+use Rattle.scr_tables.specs.Spelling.{SpellsTable, SpellsRules, read_at}
 use Rattle.scr_tables.specs.declared.rule.Rule.{Rule}
 use Rattle.scr_laws.specs.DoorRules.{door_rules, door_text}
 
@@ -41,5 +41,5 @@ complete (suc (suc zero)) = refl
 complete (suc (suc (suc zero))) = refl
 complete (suc (suc (suc (suc state)))) = beyond (suc (suc (suc (suc state)))) (omega arith)
 
-pub text-spells : Spells door_text rules
+pub text-spells : SpellsTable door_text rules
 text-spells = record { spelled = spelled; complete = complete }

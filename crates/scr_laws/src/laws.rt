@@ -6,7 +6,7 @@ ghost use Rattle.scr_laws.specs.DoorRules.{IsDoor, door_rules, door_text};
 ghost use Rattle.scr_program.specs.Folds.{verdict_after, count_after};
 ghost use Rattle.scr_program.specs.Kinds.{has_ports};
 ghost use Rattle.scr_program.specs.Rows.{kind_in};
-ghost use Rattle.scr_tables.specs.Spelling.{Spells};
+ghost use Rattle.scr_tables.specs.Spelling.{SpellsTable};
 ghost use Rattle.scr_tables.specs.Step.{verdict_after_rows, count_after_rows};
 ghost use Rattle.scr_tables.specs.declared.settings.TableSettings.{TableSettings};
 
@@ -19,5 +19,5 @@ pub fn door_is_a_table()
     ensures flows { (table : TableSettings) (door : KnockSettings) (rows : List Row) → IsDoor table door
         → All (λ row. has_ports (kind_in row) ≡ true) rows
         → count_after_rows table rows ≡ count_after (door_step door) rows }
-    ensures text { Spells door_text (door_rules 7000 8000 9000) }
+    ensures text { SpellsTable door_text (door_rules 7000 8000 9000) }
 {}

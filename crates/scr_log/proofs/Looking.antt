@@ -3,7 +3,7 @@ use Rattle.std.proofs.Common.{◌≡◌, ◌≢◌, ℕ, Bool, true, false, ◌+
 use Rattle.std.specs.Prelude.{Option, Some, None, if◌then◌else◌}
 use Rattle.atomic_table.specs.Seated.{TableId}
 use Rattle.scr_base.specs.declared.row.Row as rows
-use Rattle.scr_plan.specs.Plan.{Plan, row_of}
+use Rattle.scr_plan.specs.Plan.{Plan, row_of_packet}
 use Rattle.scr_plan.specs.Kept.{carries_to}
 use Rattle.scr_plan.specs.FinalEntry.{final_entry}
 use Rattle.scr_log.specs.declared.view.PassView.{PassView}
@@ -23,8 +23,8 @@ chosen true o row is = is
 chosen false o row is = absurd (cc)
 
 -- a final entry that is a row is the packet's row
-row_of_final : (plan : Plan) (core p : ℕ) (row : rows.Row) → final_entry plan core p ≡ Some row → row_of plan p ≡ Some row
-row_of_final plan core p row is = chosen (carries_to plan core p) (row_of plan p) row is
+row_of_final : (plan : Plan) (core p : ℕ) (row : rows.Row) → final_entry plan core p ≡ Some row → row_of_packet plan p ≡ Some row
+row_of_final plan core p row is = chosen (carries_to plan core p) (row_of_packet plan p) row is
 
 -- a word of the row that was found
 pub word_read : (logs : LogsOf) (table : TableId) (me : Mine) (core p at i n : ℕ) (step : AStep) → IsReading logs table me core p

@@ -1,6 +1,6 @@
 -- What the answers of `room` and `look` tell.
 use Rattle.std.specs.Prelude.{◌≡◌, ◌≢◌, ℕ, ◌+◌, ◌<◌, ◌≤◌, List, [], ◌∷◌, ◌++◌, Some, None, slice_index}
-use Rattle.scr_plan.specs.Plan.{Plan, row_of}
+use Rattle.scr_plan.specs.Plan.{Plan, row_of_packet}
 use Rattle.scr_plan.specs.FinalEntry.{final_entry}
 use Rattle.scr_log.specs.declared.view.Noted.{Noted}
 use Rattle.scr_log.specs.declared.view.Noted.TheVariants.{Finished}
@@ -37,6 +37,6 @@ RoomTells old new p (NoRoom core done) =
 -- the row of packet p, which is the final entry of that core; or that its final entry is LOST; or a tag of a lower number
 abbrev pub LookTells : Plan → (core p tag : ℕ) → Look → Type 0
 LookTells plan core p tag (Row row) =
-    (tag ≡ row_tag p) × (final_entry plan core p ≡ Some row) × (row_of plan p ≡ Some row)
+    (tag ≡ row_tag p) × (final_entry plan core p ≡ Some row) × (row_of_packet plan p ≡ Some row)
 LookTells plan core p tag Lost = (tag ≡ lost_tag p) × (final_entry plan core p ≡ None)
 LookTells plan core p tag (NotYet found) = (found ≡ tag) × (tag_number tag < p)

@@ -22,7 +22,7 @@ drawn start (suc i) = (drawn start i * 6364136223846793005 + 1442695040888963407
 abbrev pub most_hosts : ℕ
 most_hosts = 65536
 
--- what the high half of a record's number picks: the host, from 0, and the place in the table below
+-- what the high half of a record's number picks: the host, from 0, and the place in the exchange below
 abbrev pub host : (number hosts : ℕ) → ℕ
 host number hosts = number / 2 ^ 32 % hosts
 
@@ -30,8 +30,8 @@ abbrev pub place : (number hosts : ℕ) → ℕ
 place number hosts = number / 2 ^ 32 / hosts % 16
 
 -- who sends which frame, with the flags of TCP
-abbrev pub table : List Sent
-table =
+abbrev pub exchange : List Sent
+exchange =
     Tcp Client 0x02 ∷
     Tcp Server 0x12 ∷
     Tcp Client 0x10 ∷
@@ -51,7 +51,7 @@ table =
     []
 
 abbrev pub sent_at : (place : ℕ) → Sent
-sent_at place = slice_index_or table place (Udp Client)
+sent_at place = slice_index_or exchange place (Udp Client)
 
 -- Ethernet II: to 02:00:00:00:00:02, from 02:00:00:00:00:01, an IPv4 packet
 abbrev pub ethernet : List ℕ

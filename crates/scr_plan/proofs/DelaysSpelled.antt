@@ -213,6 +213,6 @@ IsDelayList-none = record {
   once = λ i j d order within. absurd (omega arith);
 }
 
-pub IsDelayList-from_Spells : (text : List ℕ) (delays : List FrameDelay) → SpellsDelays text delays → IsDelayList delays
-IsDelayList-from_Spells [] delays spells = subst IsDelayList (sym spells) IsDelayList-none
-IsDelayList-from_Spells (byte ∷ text) delays spells = IsDelayList-from_reads (byte ∷ text) delays spells.count spells.each
+pub IsDelayList-from_SpellsRanges : (text : List ℕ) (delays : List FrameDelay) → SpellsDelays text delays → IsDelayList delays
+IsDelayList-from_SpellsRanges [] delays spells = subst IsDelayList (sym spells) IsDelayList-none
+IsDelayList-from_SpellsRanges (byte ∷ text) delays spells = IsDelayList-from_reads (byte ∷ text) delays spells.count spells.each

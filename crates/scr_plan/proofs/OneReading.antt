@@ -2,7 +2,7 @@
 use Rattle.std.proofs.Common.{◌≡◌, ℕ, ◌<◌, List, [], ◌∷◌, get_or, Result, Ok, Err, arith, sym, ap, ◌∙◌}
 use Rattle.std.specs.Result.{IsOk}
 use Rattle.std.proofs.lemmas.List.{same_lists}
-use Rattle.scr_plan.specs.Spelling.{read_at, place_of, Spells, IsRefused}
+use Rattle.scr_plan.specs.Spelling.{read_at, place_of, SpellsRanges, IsRefused}
 use Rattle.scr_plan.specs.DelaySpelling.{delay_read_at, SpellsDelays}
 use Rattle.scr_plan.specs.declared.delays.FrameDelay.{FrameDelay}
 use Rattle.scr_plan.specs.declared.drops.DropRange.{DropRange}
@@ -20,9 +20,9 @@ not_both a b x is_a is_b = cc
 not_ok : (a : DropCause) (x : Result DropRange DropCause) → x ≡ Err a → IsOk x → ⊥
 not_ok a x is_a ok = cc
 
-pub Spells-same : (text : List ℕ) (a b : List DropRange) → Spells text a → Spells text b → a ≡ b
-Spells-same [] a b spells_a spells_b = spells_a ∙ sym spells_b
-Spells-same (byte ∷ text) a b spells_a spells_b =
+pub SpellsRanges-same : (text : List ℕ) (a b : List DropRange) → SpellsRanges text a → SpellsRanges text b → a ≡ b
+SpellsRanges-same [] a b spells_a spells_b = spells_a ∙ sym spells_b
+SpellsRanges-same (byte ∷ text) a b spells_a spells_b =
     same_lists a b (spells_a.count ∙ sym spells_b.count)
     (λ k d within.
     Ok-same (get_or a k d) (get_or b k d) (read_at (byte ∷ text) k) (spells_a.each k d within)
@@ -36,10 +36,10 @@ SpellsDelays-same (byte ∷ text) a b spells_a spells_b =
     Ok-same (get_or a k d) (get_or b k d) (delay_read_at (byte ∷ text) k) (spells_a.each k d within)
     (spells_b.each k d (omega (arith, spells_a.count, spells_b.count))))
 
-pub Spells-not_refused : (text : List ℕ) (ranges : List DropRange) (cause : DropCause) (place : ℕ)
-    → Spells text ranges → IsRefused text cause place → ⊥
-Spells-not_refused [] ranges cause place spells refused = omega (arith, refused.some)
-Spells-not_refused (byte ∷ text) ranges cause place spells refused =
+pub SpellsRanges-not_refused : (text : List ℕ) (ranges : List DropRange) (cause : DropCause) (place : ℕ)
+    → SpellsRanges text ranges → IsRefused text cause place → ⊥
+SpellsRanges-not_refused [] ranges cause place spells refused = omega (arith, refused.some)
+SpellsRanges-not_refused (byte ∷ text) ranges cause place spells refused =
     let d : DropRange = record { first = 0; last = 0; step = 0 } in
     not_both cause (get_or ranges refused.faulty d) (read_at (byte ∷ text) refused.faulty) refused.why
     (spells.each refused.faulty d (omega (arith, spells.count, refused.within)))

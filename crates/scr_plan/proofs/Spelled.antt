@@ -8,7 +8,7 @@ use Rattle.std.proofs.lemmas.List.{get_or_default, get_or_append_left, get_or_pu
 use Rattle.std.proofs.lemmas.List.Sums.{sum_by-cons, sum_by_more, sum_by-take-le}
 use Rattle.scr_base.specs.Numbers.{number_of}
 use Rattle.scr_plan.specs.Drops.{IsRange, IsDropList, most_ranges}
-use Rattle.scr_plan.specs.Spelling.{Texts, pieces_of, piece_read, numbers_read, named_range, texts_of, are_numbers, has_zero, has_large, read_at, place_of, Spells, IsRefused}
+use Rattle.scr_plan.specs.Spelling.{Texts, pieces_of, piece_read, numbers_read, named_range, texts_of, are_numbers, has_zero, has_large, read_at, place_of, SpellsRanges, IsRefused}
 use Rattle.scr_plan.specs.declared.drops.DropRange.{DropRange}
 use Rattle.scr_plan.specs.declared.reading.DropCause.{DropCause}
 use Rattle.scr_plan.specs.declared.reading.DropCause.TheVariants.{Digit, Zero, TooLarge, Range, Pieces}
@@ -95,10 +95,10 @@ place_of-fits text k =
     omega (arith, sum_by-take-le (λ (piece : List ℕ). length piece + 1) (pieces_of text) k, sum_by-pieces (λ byte. eqb byte 44) text)
 
 -- all pieces were read
-pub Spells-all : (text : List ℕ) (ranges : List DropRange) → 0 < length text → length ranges ≡ length (pieces_of text)
-    → ReadsTo text ranges → Spells text ranges
-Spells-all [] ranges some count reads = absurd (omega arith)
-Spells-all (byte ∷ text) ranges some count reads = record { count = count; each = reads }
+pub SpellsRanges-all : (text : List ℕ) (ranges : List DropRange) → 0 < length text → length ranges ≡ length (pieces_of text)
+    → ReadsTo text ranges → SpellsRanges text ranges
+SpellsRanges-all [] ranges some count reads = absurd (omega arith)
+SpellsRanges-all (byte ∷ text) ranges some count reads = record { count = count; each = reads }
 
 -- a piece that reads as a range has its numbers within bounds, and fewer than 256 pieces before it
 refused-unless : (b : Bool) (cause : DropCause) (rest : Result DropRange DropCause) (range : DropRange)
@@ -158,6 +158,6 @@ IsDropList-from_reads text ranges reads = record {
 pub IsDropList-none : IsDropList []
 IsDropList-none = record { each = λ i d within. absurd (omega arith); few = omega arith }
 
-pub IsDropList-from_Spells : (text : List ℕ) (ranges : List DropRange) → Spells text ranges → IsDropList ranges
-IsDropList-from_Spells [] ranges spells = subst IsDropList (sym spells) IsDropList-none
-IsDropList-from_Spells (byte ∷ text) ranges spells = IsDropList-from_reads (byte ∷ text) ranges spells.each
+pub IsDropList-from_SpellsRanges : (text : List ℕ) (ranges : List DropRange) → SpellsRanges text ranges → IsDropList ranges
+IsDropList-from_SpellsRanges [] ranges spells = subst IsDropList (sym spells) IsDropList-none
+IsDropList-from_SpellsRanges (byte ∷ text) ranges spells = IsDropList-from_reads (byte ∷ text) ranges spells.each

@@ -25,8 +25,8 @@ abbrev pub frame_count : Plan → ℕ
 frame_count plan = length plan.rows
 
 -- the row of packet p, where there is such a packet
-abbrev pub row_of : Plan → ℕ → Option Row
-row_of plan p = slice_get plan.rows (p - 1)
+abbrev pub row_of_packet : Plan → ℕ → Option Row
+row_of_packet plan p = slice_get plan.rows (p - 1)
 
 -- the plan has these, whatever its rows and its history are
 pub record HasParts (plan : Plan) (link : Link) (cores frames : ℕ) : Type 0 where

@@ -93,9 +93,9 @@ pub record SpellsPieces (text : List ℕ) (ranges : List DropRange) : Type 0 whe
   pub count : length ranges ≡ length (pieces_of text)
   pub each : (i : ℕ) (d : DropRange) → i < length ranges → read_at text i ≡ Ok (slice_index_or ranges i d)
 
-abbrev pub Spells : List ℕ → List DropRange → Type 0
-Spells [] ranges = ranges ≡ []
-Spells (byte ∷ text) ranges = SpellsPieces (byte ∷ text) ranges
+abbrev pub SpellsRanges : List ℕ → List DropRange → Type 0
+SpellsRanges [] ranges = ranges ≡ []
+SpellsRanges (byte ∷ text) ranges = SpellsPieces (byte ∷ text) ranges
 
 -- a text is refused: it isn't empty, and this is the cause and the place of its first piece that is refused
 pub record IsRefused (text : List ℕ) (cause : DropCause) (place : ℕ) : Type 0 where

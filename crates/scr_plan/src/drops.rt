@@ -1,6 +1,6 @@
 ghost use Rattle.std.specs.Prelude.{◌≡◌, ◌≤◌, ◌<◌, ◌+◌, ℕ, false, ◌||◌, List, [], All, length, slice_index_or, MatchResult, IfOk, None, IfSome};
 ghost use Rattle.scr_plan.specs.Drops.{IsDropList, IsRange, has_number, range_has};
-ghost use Rattle.scr_plan.specs.Spelling.{Spells, RefusedBy};
+ghost use Rattle.scr_plan.specs.Spelling.{SpellsRanges, RefusedBy};
 ghost use Rattle.scr_plan.specs.declared.drops.DropRange.{DropRange};
 
 use crate::reading::{DropError, read_ranges};
@@ -115,7 +115,7 @@ impl Drops {
     /// The list that a text spells: it is empty, or pieces parted by commas, each `a`, `a-b` (from a to b) or `a-b/s`
     /// (in steps of s). Numbers are decimal, of any length and with any zeros in front.
     pub fn read(alloc: Global, text: &[u8]) -> Result<Self, DropError>
-        ensures { MatchResult result (λ drops. Spells text.now drops) (λ error. RefusedBy text.now error) }
+        ensures { MatchResult result (λ drops. SpellsRanges text.now drops) (λ error. RefusedBy text.now error) }
     {
         let ranges = read_ranges(alloc, text)?;
         Ok(Drops { ranges })

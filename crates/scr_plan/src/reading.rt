@@ -1,7 +1,7 @@
 ghost use Rattle.std.specs.Prelude.{◌≡◌, ◌-◌, ◌^◌, ◌<◌, ◌≤◌, min, false, length, MatchResult, MatchOption, Some, None, if◌then◌else◌};
 ghost use Rattle.scr_base.specs.Numbers.{is_number, number_of};
 ghost use Rattle.scr_plan.specs.Drops.{IsDropList};
-ghost use Rattle.scr_plan.specs.Spelling.{Spells, RefusedBy, piece_read, numbers_read, texts_of, with_end, has_byte, in_front, behind, IsCut};
+ghost use Rattle.scr_plan.specs.Spelling.{SpellsRanges, RefusedBy, piece_read, numbers_read, texts_of, with_end, has_byte, in_front, behind, IsCut};
 
 use crate::drops::DropRange;
 use scr_base::{NumberError, OutOfMemory, read_number};
@@ -57,7 +57,7 @@ impl From<AllocFailed<DropRange>> for DropError {
 
 /// The ranges that a text spells, as `Drops::read` says.
 pub fn read_ranges(alloc: Global, text: &[u8]) -> Result<Vec<DropRange>, DropError>
-    ensures { MatchResult result (λ ranges. Spells text.now ranges.items) (λ error. RefusedBy text.now error) }
+    ensures { MatchResult result (λ ranges. SpellsRanges text.now ranges.items) (λ error. RefusedBy text.now error) }
 {
     let mut ranges = Vec::new(alloc);
     if text.is_empty() {

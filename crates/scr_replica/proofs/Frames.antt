@@ -6,7 +6,7 @@ use Rattle.std.proofs.lemmas.List.{length-drop, length-take-le, get_or-drop, get
 use Rattle.std.proofs.lemmas.Option.{slice_get-get_or, get_or_from_slice_get, slice_get_within}
 use Rattle.scr_base.specs.declared.row.Row.{Row}
 use Rattle.scr_plan.specs.Kept.{first_carried, carries_to}
-use Rattle.scr_plan.specs.Plan.{Plan, row_of}
+use Rattle.scr_plan.specs.Plan.{Plan, row_of_packet}
 use Rattle.scr_plan.specs.Delivered.{delivers_to}
 use Rattle.scr_plan.proofs.Packets.{Decides-carried}
 use Rattle.scr_wire.specs.declared.message.Message.{Message}
@@ -55,7 +55,7 @@ module _ (plan : Plan) (core : ℕ) (message : Message) (frame : IsFrameTo plan 
         omega (arith, count_of)
 
     -- the row of the packet
-    the_row : row_of plan p ≡ Some row
+    the_row : row_of_packet plan p ≡ Some row
     the_row =
         let is = is_frame_to plan core (number_of message) frame.is_delivered in
         let from = is.is.from in

@@ -10,7 +10,7 @@ use Rattle.scr_base.specs.declared.row.Row.{Row}
 use Rattle.scr_base.specs.declared.row.Verdict.{Verdict}
 use Rattle.scr_plan.specs.Delivered.{delivers_to, core_number, delivers}
 use Rattle.scr_plan.specs.declared.given.Given.{Given}
-use Rattle.scr_plan.specs.Plan.{Plan, frame_count, row_of}
+use Rattle.scr_plan.specs.Plan.{Plan, frame_count, row_of_packet}
 use Rattle.scr_plan.specs.Counts.{plan_counts}
 use Rattle.scr_plan.proofs.Delivering.{delivered_to-other}
 use Rattle.scr_replica.specs.OneCore.{given_with, given_at, given_to, course, course_up_to, verdicts, entries}
@@ -49,7 +49,7 @@ module _ (verdict_after : List Row → Row → Verdict) (plan : Plan) where
   number_of_given false n row g e = absurd cc
 
   given_number : (core n : ℕ) (g : Given) → given_to verdict_after plan core n ≡ Some g → g.number ≡ n
-  given_number core n g e = number_of_given (delivers_to plan core n) n (row_of plan n) g e
+  given_number core n g e = number_of_given (delivers_to plan core n) n (row_of_packet plan n) g e
 
   module _ (n : ℕ) (from : 1 ≤ n) (to : n ≤ frame_count plan) where
     rest-here : (core : ℕ) → rest core n ≡ cons_option (given_to verdict_after plan core n) (rest core (n + 1))
@@ -64,7 +64,7 @@ module _ (verdict_after : List Row → Row → Verdict) (plan : Plan) where
     pub rest-other : (core : ℕ) → core_number plan.cores n ≢ core → rest core n ≡ rest core (n + 1)
     rest-other core other =
         rest-here core
-        ∙ ap (λ (b : Bool). cons_option (cond b (option_map (given_with verdict_after plan n) (row_of plan n)) None) (rest core (n + 1)))
+        ∙ ap (λ (b : Bool). cons_option (cond b (option_map (given_with verdict_after plan n) (row_of_packet plan n)) None) (rest core (n + 1)))
         (delivered_to-other plan core n other)
 
     own_delivers : (core : ℕ) → core ≡ core_number plan.cores n → delivers_to plan core n ≡ delivers plan n
@@ -75,7 +75,7 @@ module _ (verdict_after : List Row → Row → Verdict) (plan : Plan) where
         ap (λ (b : Bool). delivers plan n && b) same ∙ both (delivers plan n)
 
     given-own : (core : ℕ) → core ≡ core_number plan.cores n → given_to verdict_after plan core n ≡ given_at verdict_after plan n
-    given-own core is = ap (λ (b : Bool). cond b (option_map (given_with verdict_after plan n) (row_of plan n)) None) (own_delivers core is)
+    given-own core is = ap (λ (b : Bool). cond b (option_map (given_with verdict_after plan n) (row_of_packet plan n)) None) (own_delivers core is)
 
     -- the verdict at the place of the frame's core
     module _ (core place : ℕ) (own : List Given) (is : core ≡ core_number plan.cores n) (left : drop place own ≡ rest core n) where

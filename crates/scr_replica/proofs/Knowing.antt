@@ -6,7 +6,7 @@ use Rattle.std.proofs.lemmas.List.FromFn.{map-range_with_len_more, length-map-ra
 use Rattle.scr_base.specs.declared.row.Row.{Row}
 use Rattle.scr_plan.specs.Delivered.{IsDeliveredTo, delivers_to}
 use Rattle.scr_plan.specs.Kept.{first_carried, carries_to}
-use Rattle.scr_plan.specs.Plan.{Plan, frame_count, row_of}
+use Rattle.scr_plan.specs.Plan.{Plan, frame_count, row_of_packet}
 use Rattle.scr_plan.proofs.Delivering.{Decides-delivered_to}
 use Rattle.scr_plan.proofs.Packets.{Decides-carried}
 use Rattle.scr_replica.specs.declared.entry.Entry.{Entry}
@@ -54,12 +54,12 @@ module _ (plan : Plan) (core : ℕ) where
   -- ---- entries
 
   pub entry_lost : (p : ℕ) → carries_to plan core p ≡ false → entry_of plan core p ≡ Lost
-  entry_lost p fails = ap (λ (b : Bool). entry_with (delivers_to plan core p) (cond b (row_of plan p) None)) fails
+  entry_lost p fails = ap (λ (b : Bool). entry_with (delivers_to plan core p) (cond b (row_of_packet plan p) None)) fails
 
-  pub entry_row : (p : ℕ) (row : Row) (own : Bool) → carries_to plan core p ≡ true → row_of plan p ≡ Some row → delivers_to plan core p ≡ own
+  pub entry_row : (p : ℕ) (row : Row) (own : Bool) → carries_to plan core p ≡ true → row_of_packet plan p ≡ Some row → delivers_to plan core p ≡ own
       → entry_of plan core p ≡ cond own (Delivered row) (Carried row)
   entry_row p row own holds is delivered =
-      ap (λ (b : Bool). entry_with (delivers_to plan core p) (cond b (row_of plan p) None)) holds
+      ap (λ (b : Bool). entry_with (delivers_to plan core p) (cond b (row_of_packet plan p) None)) holds
       ∙ ap (λ (o : Option Row). entry_with (delivers_to plan core p) o) is
       ∙ ap (λ (b : Bool). cond b (Delivered row) (Carried row)) delivered
 

@@ -6,7 +6,7 @@ use Rattle.std.proofs.lemmas.Option.{slice_get-get_or}
 use Rattle.scr_base.specs.declared.row.Row.{Row}
 use Rattle.scr_base.specs.declared.row.Verdict.{Verdict}
 use Rattle.scr_plan.specs.declared.given.Given.{Given}
-use Rattle.scr_plan.specs.Plan.{Plan, frame_count, row_of}
+use Rattle.scr_plan.specs.Plan.{Plan, frame_count, row_of_packet}
 use Rattle.scr_plan.specs.Delivered.{delivers}
 use Rattle.scr_replica.specs.OneCore.{given_with, given_at, verdicts}
 
@@ -25,7 +25,7 @@ module _ (verdict_after : List Row → Row → Verdict) (plan : Plan) where
   numbers_from n zero from to = refl
   numbers_from n (suc k) from to =
       let d : Row = record { w0 = 0; w1 = 0; w2 = 0; w3 = 0; w4 = 0; w5 = 0; w6 = 0 } in
-      number_of n (get_or plan.rows (n - 1) d) (delivers plan n) (row_of plan n) (filter_map (given_at verdict_after plan) (range_with_len (n + 1) k))
+      number_of n (get_or plan.rows (n - 1) d) (delivers plan n) (row_of_packet plan n) (filter_map (given_at verdict_after plan) (range_with_len (n + 1) k))
       (filter (delivers plan) (range_with_len (n + 1) k)) (slice_get-get_or plan.rows (n - 1) d (omega arith))
       (numbers_from (n + 1) k (omega arith) (omega arith))
 

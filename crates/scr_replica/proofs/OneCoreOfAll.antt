@@ -11,7 +11,7 @@ use Rattle.scr_plan.specs.declared.given.Given.{Given}
 use Rattle.scr_plan.specs.Delivered.{delivers}
 use Rattle.scr_plan.specs.Kept.{keeps}
 use Rattle.scr_plan.specs.Link.{empty_link}
-use Rattle.scr_plan.specs.Plan.{Plan, frame_count, row_of}
+use Rattle.scr_plan.specs.Plan.{Plan, frame_count, row_of_packet}
 use Rattle.scr_plan.proofs.EmptyLink.{delivered-all, kept-all}
 use Rattle.scr_replica.specs.OneCore.{kept_row, kept_rows, entries, given_with, given_at, given_in, verdicts, all_verdicts}
 use Rattle.scr_replica.proofs.Taking.{filter_map-more, kept_rows-zero, kept_rows-more}
@@ -43,7 +43,7 @@ module _ (plan : Plan) (none : plan.link ≡ empty_link) where
       let at : suc p - 1 ≡ p = omega arith in
       let row : Row = get_or plan.rows p zero_row in
       let there : kept_row plan (suc p) ≡ Some row =
-      ap (λ (b : Bool). cond b (row_of plan (suc p)) None) (all_kept (suc p) (omega arith) to)
+      ap (λ (b : Bool). cond b (row_of_packet plan (suc p)) None) (all_kept (suc p) (omega arith) to)
       ∙ ap (slice_get plan.rows) at
       ∙ slice_get-get_or plan.rows p zero_row (omega arith) in
       kept_rows-more plan p (suc p) next
@@ -61,8 +61,8 @@ module _ (plan : Plan) (none : plan.link ≡ empty_link) where
   verdicts-all verdict_after =
       same_up_to (given_at verdict_after plan) (given_in verdict_after plan.rows) (frame_count plan)
       (λ n from to.
-      ap (λ (b : Bool). cond b (option_map (given_with verdict_after plan n) (row_of plan n)) None) (all_delivered n from to)
-      ∙ ap (λ (rows : List Row). option_map (λ (row : Row). let it : Given = record { number = n; verdict = verdict_after rows row } in it) (row_of plan n))
+      ap (λ (b : Bool). cond b (option_map (given_with verdict_after plan n) (row_of_packet plan n)) None) (all_delivered n from to)
+      ∙ ap (λ (rows : List Row). option_map (λ (row : Row). let it : Given = record { number = n; verdict = verdict_after rows row } in it) (row_of_packet plan n))
       (kept_rows-all (n - 1) (omega arith)))
 
 module _ (verdict_after : List Row → Row → Verdict) (rows : List Row) (row : Row) where

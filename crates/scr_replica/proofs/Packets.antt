@@ -5,7 +5,7 @@ use Rattle.std.proofs.lemmas.Bool.{false_from_ne_true}
 use Rattle.std.proofs.lemmas.Option.{slice_get-get_or}
 use Rattle.scr_base.specs.declared.row.Row.{Row}
 use Rattle.scr_plan.specs.Delivered.{delivers_to}
-use Rattle.scr_plan.specs.Plan.{Plan, IsPlan, frame_count, row_of}
+use Rattle.scr_plan.specs.Plan.{Plan, IsPlan, frame_count, row_of_packet}
 use Rattle.scr_plan.specs.Kept.{carries_to, keeps}
 use Rattle.scr_plan.specs.FinalEntry.{final_entry}
 use Rattle.scr_plan.proofs.Packets.{kept-by_some, carried-own, kept-carried}
@@ -35,7 +35,7 @@ module _ (plan : Plan) (p : ℕ) (from : 1 ≤ p) (to : p ≤ frame_count plan) 
   the_row : Row
   the_row = get_or plan.rows (p - 1) (record { w0 = 0; w1 = 0; w2 = 0; w3 = 0; w4 = 0; w5 = 0; w6 = 0 })
 
-  row_is : row_of plan p ≡ Some the_row
+  row_is : row_of_packet plan p ≡ Some the_row
   unfolding the_row
   row_is = slice_get-get_or plan.rows (p - 1) (record { w0 = 0; w1 = 0; w2 = 0; w3 = 0; w4 = 0; w5 = 0; w6 = 0 }) (omega arith)
 
@@ -51,16 +51,16 @@ module _ (plan : Plan) (p : ℕ) (from : 1 ≤ p) (to : p ≤ frame_count plan) 
       (λ holds.
       let some = kept-by_some plan p is_plan holds in
       let none = unknown some.0 some.1 in
-      let there : final_entry plan some.0 p ≡ Some the_row = ap (λ (b : Bool). cond b (row_of plan p) None) some.2 ∙ row_is in
+      let there : final_entry plan some.0 p ≡ Some the_row = ap (λ (b : Bool). cond b (row_of_packet plan p) None) some.2 ∙ row_is in
       absurd cc) in
-      ap (λ (b : Bool). cond b (row_of plan p) None) not_kept
+      ap (λ (b : Bool). cond b (row_of_packet plan p) None) not_kept
 
   module _ (core : ℕ) where
     -- a packet that a core knows is kept, with that row
     pub known-kept : (row : Row) → final_entry plan core p ≡ Some row → kept_row plan p ≡ Some row
     known-kept row e =
-        let both = some_of_cond (carries_to plan core p) (row_of plan p) row e in
-        ap (λ (b : Bool). cond b (row_of plan p) None) (kept-carried plan core p both.0)
+        let both = some_of_cond (carries_to plan core p) (row_of_packet plan p) row e in
+        ap (λ (b : Bool). cond b (row_of_packet plan p) None) (kept-carried plan core p both.0)
         ∙ both.1
 
     pub is_some-entry : is_some (row_in (entry_of plan core p)) ≡ carries_to plan core p
@@ -73,4 +73,4 @@ module _ (plan : Plan) (p : ℕ) (from : 1 ≤ p) (to : p ≤ frame_count plan) 
     is_delivered-entry =
         is_delivered-entry_with (delivers_to plan core p) (final_entry plan core p)
         (λ holds.
-        ap (λ (b : Bool). is_some (cond b (row_of plan p) None)) (carried-own plan core p holds) ∙ ap is_some row_is)
+        ap (λ (b : Bool). is_some (cond b (row_of_packet plan p) None)) (carried-own plan core p holds) ∙ ap is_some row_is)

@@ -12,7 +12,7 @@ use Rattle.scr_base.specs.declared.row.Row.{Row}
 use Rattle.scr_base.specs.declared.row.Verdict.{Verdict}
 use Rattle.scr_plan.specs.declared.counting.CoreCounts.{CoreCounts}
 use Rattle.scr_plan.specs.declared.given.Given.{Given}
-use Rattle.scr_plan.specs.Plan.{Plan, frame_count, row_of}
+use Rattle.scr_plan.specs.Plan.{Plan, frame_count, row_of_packet}
 use Rattle.scr_plan.specs.Delivered.{delivers_to}
 use Rattle.scr_plan.specs.Counts.{counts_up_to}
 use Rattle.scr_plan.specs.Kept.{carries_to, keeps}
@@ -141,5 +141,5 @@ module _ (plan : Plan) (n p : ℕ) (next : n + 1 ≡ p) where
           ap (λ (k : ℕ). cond own (option_to_list (option_map (λ r. record { number = p; verdict = verdict_after (kept_rows plan k) r }) row)) []) before
           ∙ ap (λ (o : Option Row). cond own (option_to_list (option_map (given_with verdict_after plan p) o)) []) row-is
           ∙ ap (λ (b : Bool). cond b (option_to_list (option_map (given_with verdict_after plan p) (kept_row plan p))) []) own-is
-          ∙ given_of (delivers_to plan core p) (keeps plan p) (row_of plan p) (given_with verdict_after plan p)
+          ∙ given_of (delivers_to plan core p) (keeps plan p) (row_of_packet plan p) (given_with verdict_after plan p)
           (λ holds. kept-carried plan core p (carried-own plan core p holds))

@@ -5,7 +5,7 @@ use Rattle.std.proofs.lemmas.List.{append_assoc, append-nil, length-append}
 use Rattle.scr_base.specs.declared.row.Row.{Row}
 use Rattle.scr_base.specs.declared.row.Verdict.{Verdict}
 use Rattle.scr_plan.specs.declared.given.Given.{Given}
-use Rattle.scr_plan.specs.Plan.{row_of}
+use Rattle.scr_plan.specs.Plan.{row_of_packet}
 use Rattle.scr_plan.specs.Delivered.{delivers}
 use Rattle.scr_plan.specs.Kept.{keeps}
 use Rattle.scr_plan.proofs.EmptyLink.{delivered-all, kept-all}
@@ -38,7 +38,7 @@ row-behind : (a : List Row) (row : Row) (b : List Row) → slice_get (a ++ row �
 row-behind [] row b = refl
 row-behind (first ∷ a) row b = row-behind a row b
 
-place_of : (a : List Row) (row : Row) (b : List Row) → row_of (undivided (a ++ row ∷ b)) (length a + 1) ≡ Some row
+place_of : (a : List Row) (row : Row) (b : List Row) → row_of_packet (undivided (a ++ row ∷ b)) (length a + 1) ≡ Some row
 place_of a row b =
     let e : length a + 1 - 1 ≡ length a = omega arith in
     rw e (row-behind a row b)
@@ -71,7 +71,7 @@ module _ (verdict_after : List Row → Row → Verdict) where
       delivered-all (undivided rows) refl (length a + 1) (omega arith) (rw parts (count_of a row b)) in
       let number : length a + 1 - 1 ≡ length a = omega arith in
       let before : kept_rows (undivided rows) (length a + 1 - 1) ≡ a = rw (number, parts) (kept_rows-front a (row ∷ b)) in
-      let is_row : row_of (undivided rows) (length a + 1) ≡ Some row = rw parts (place_of a row b) in
+      let is_row : row_of_packet (undivided rows) (length a + 1) ≡ Some row = rw parts (place_of a row b) in
       rw (sent, is_row, before) refl)
 
   -- one row more

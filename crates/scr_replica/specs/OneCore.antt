@@ -8,13 +8,13 @@ use Rattle.scr_base.specs.declared.row.Row.{Row}
 use Rattle.scr_base.specs.declared.row.Verdict.{Verdict}
 use Rattle.scr_plan.specs.declared.given.Given.{Given}
 use Rattle.scr_plan.specs.Link.{empty_link}
-use Rattle.scr_plan.specs.Plan.{Plan, frame_count, row_of}
+use Rattle.scr_plan.specs.Plan.{Plan, frame_count, row_of_packet}
 use Rattle.scr_plan.specs.Delivered.{delivers, delivers_to}
 use Rattle.scr_plan.specs.Kept.{keeps}
 
 -- the row of packet p, where it is kept
 abbrev pub kept_row : Plan → ℕ → Option Row
-kept_row plan p = if keeps plan p then row_of plan p else None
+kept_row plan p = if keeps plan p then row_of_packet plan p else None
 
 -- the rows of the kept packets up to p, in order
 unfoldable pub kept_rows : Plan → ℕ → List Row
@@ -31,7 +31,7 @@ module _ (verdict_after : List Row → Row → Verdict) where
 
   -- the verdict at frame n, where it is delivered
   abbrev pub given_at : Plan → ℕ → Option Given
-  given_at plan n = if delivers plan n then option_map (given_with plan n) (row_of plan n) else None
+  given_at plan n = if delivers plan n then option_map (given_with plan n) (row_of_packet plan n) else None
 
   -- the verdicts at the delivered frames, in order
   unfoldable pub verdicts : Plan → List Given
@@ -39,7 +39,7 @@ module _ (verdict_after : List Row → Row → Verdict) where
 
   -- the verdict at frame n, where it is delivered to this core
   abbrev pub given_to : Plan → (core n : ℕ) → Option Given
-  given_to plan core n = if delivers_to plan core n then option_map (given_with plan n) (row_of plan n) else None
+  given_to plan core n = if delivers_to plan core n then option_map (given_with plan n) (row_of_packet plan n) else None
 
   -- the verdicts at the frames up to n that are delivered to this core, in order
   unfoldable pub course_up_to : Plan → (core n : ℕ) → List Given

@@ -10,7 +10,7 @@ use Rattle.scr_report.specs.Memory.{IsOfText}
 use Rattle.scr_report.specs.declared.report.ReportError.TheVariants.{Line, Ended, OutOfMemory}
 use Rattle.scr_report.specs.Text.{name_at, verdict_line, frames_line, core_line, flows_line, total_line}
 use Rattle.scr_report.specs.Outcome.{Outcome, counter_lines, report_lines}
-use Rattle.scr_report.specs.Grammar.{lines_in, MayFollow, FollowOn, AreCounts, IsReadable, Spells, ReadsAs}
+use Rattle.scr_report.specs.Grammar.{lines_in, MayFollow, FollowOn, AreCounts, IsReadable, SpellsReport, ReadsAs}
 use Rattle.scr_report.specs.Parts.{Cursor, GoesPast, first_line, refusal_at, last_number, ReadsVerdicts, ReadsFrames, LacksFrames, ReadsCores, ReadsFlows, LacksFlows, ReadsTotals, LacksTotal}
 use Rattle.scr_report.proofs.Stages.{GoesPast-then}
 use Rattle.scr_report.proofs.Refusals.{goes-on, AreRead, AreTotals, has-cores, has-totals, totals-go-on, up_to_cores, up_to_totals, begins, begins-front, IsStuck, refused}
@@ -219,7 +219,7 @@ no-end names bytes start a b c e g verdicts f d k cores flows totals error text_
 pub spelled : (names : List (List ℕ)) (bytes : List ℕ) (start a b c e g : Cursor) (verdicts : List Given) (f d k : ℕ) (cores : List CoreCounts) (flows : ℕ) (totals : List ℕ)
     → start.text ≡ bytes → ReadsVerdicts names start a verdicts → ReadsFrames a b f d k → ReadsCores b c cores → ReadsFlows c e flows
     → ReadsTotals names e g totals → length totals ≡ length names → g.text ≡ []
-    → Spells names bytes (record { verdicts = verdicts; frames = f; delivered = d; kept = k; cores = cores; flows = flows; totals = totals })
+    → SpellsReport names bytes (record { verdicts = verdicts; frames = f; delivered = d; kept = k; cores = cores; flows = flows; totals = totals })
 spelled names bytes start a b c e g verdicts f d k cores flows totals text_is vs fs cs fl ts all ended =
     let front = past-cores names start a b c verdicts f d k cores vs fs cs in
     let past = past-totals names start c e g verdicts f d k cores flows totals front fl ts in

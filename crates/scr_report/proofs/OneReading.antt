@@ -10,7 +10,7 @@ use Rattle.scr_report.specs.Memory.{IsOfText}
 use Rattle.scr_report.specs.declared.report.ReportError.TheVariants.{Line, Ended, OutOfMemory}
 use Rattle.scr_report.specs.Text.{verdict_line, frames_line, core_line, flows_line, total_line}
 use Rattle.scr_report.specs.Outcome.{Outcome, report_lines}
-use Rattle.scr_report.specs.Grammar.{lines_in, IsReadable, Spells, Begins, IsBadLine, ReadsAs}
+use Rattle.scr_report.specs.Grammar.{lines_in, IsReadable, SpellsReport, Begins, IsBadLine, ReadsAs}
 use Rattle.scr_report.proofs.LineKinds.{total-same}
 use Rattle.scr_report.proofs.Refusals.{AreRead, has-totals, begins-front, up_to_totals}
 
@@ -63,7 +63,7 @@ begins-take names n lines is =
     let P : List (List ℕ) → Type 0 = λ t. Begins names t in
     begins-front names (take n lines) (drop n lines) (subst P (sym (take-append-drop n lines)) is)
 
-spelled-begins : (names : List (List ℕ)) (bytes : List ℕ) (outcome : Outcome) → Spells names bytes outcome → Begins names (lines_in bytes)
+spelled-begins : (names : List (List ℕ)) (bytes : List ℕ) (outcome : Outcome) → SpellsReport names bytes outcome → Begins names (lines_in bytes)
 spelled-begins names bytes outcome is =
     record { outcome = outcome; others = []; readable = is.readable; parts = sym is.lines ∙ sym (append-nil (lines_in bytes)) }
 

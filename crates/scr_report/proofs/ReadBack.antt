@@ -11,7 +11,7 @@ use Rattle.scr_plan.specs.declared.given.Given.{Given}
 use Rattle.scr_plan.specs.declared.counting.CoreCounts.{CoreCounts}
 use Rattle.scr_report.specs.Text.{line, name_at, verdict_line, frames_line, core_line, flows_line, total_line}
 use Rattle.scr_report.specs.Outcome.{Outcome, report_lines, report_text}
-use Rattle.scr_report.specs.Grammar.{IsFirstOfName, FollowOn, AreCounts, IsReadable, Spells}
+use Rattle.scr_report.specs.Grammar.{IsFirstOfName, FollowOn, AreCounts, IsReadable, SpellsReport}
 use Rattle.scr_report.specs.ReadBack.{ArePlain, Grow}
 use Rattle.scr_report.specs.Parts.{last_number}
 use Rattle.scr_report.proofs.Numbers.{all-decimal}
@@ -106,7 +106,7 @@ whole-report names r plain is =
     (All-append IsWhole cs (flows_line r.flows ∷ ts) (whole-cores 0 r.cores (omega (arith, is.few_cores)) is.cores)
     (All-cons IsWhole (flows_line r.flows) ts flows (whole-totals names r.totals plain.no_feeds is.totals))))
 
-pub spells-written : (names : List (List ℕ)) (outcome : Outcome) → ArePlain names → IsReadable names outcome → Spells names (report_text names outcome true) outcome
+pub spells-written : (names : List (List ℕ)) (outcome : Outcome) → ArePlain names → IsReadable names outcome → SpellsReport names (report_text names outcome true) outcome
 spells-written names outcome plain is = record { readable = is; lines = lines-concat (report_lines names outcome) (whole-report names outcome plain is) }
 
 -- where names differ, each place is the first of its name

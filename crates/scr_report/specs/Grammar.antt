@@ -51,7 +51,7 @@ pub record IsReadable (names : List (List ℕ)) (outcome : Outcome) : Type 0 whe
   pub totals : All (λ total. total < 2 ^ 64) outcome.totals
 
 -- bytes spell a report: they have its lines
-pub record Spells (names : List (List ℕ)) (bytes : List ℕ) (outcome : Outcome) : Type 0 where
+pub record SpellsReport (names : List (List ℕ)) (bytes : List ℕ) (outcome : Outcome) : Type 0 where
   pub readable : IsReadable names outcome
   pub lines : lines_in bytes ≡ report_lines names outcome
 
@@ -73,11 +73,11 @@ pub record IsBadLine (names : List (List ℕ)) (bytes : List ℕ) (number : ℕ)
 pub record IsEndedAt (names : List (List ℕ)) (bytes : List ℕ) (number : ℕ) : Type 0 where
   pub behind : number ≡ length (lines_in bytes) + 1
   pub before : Begins names (lines_in bytes)
-  pub not_spelled : (outcome : Outcome) → Spells names bytes outcome → ⊥
+  pub not_spelled : (outcome : Outcome) → SpellsReport names bytes outcome → ⊥
 
 -- what some bytes are read as; want of memory says nothing of them
 abbrev pub ReadsAs : List (List ℕ) → List ℕ → Result Outcome ReportError → Type 0
-ReadsAs names bytes (Ok outcome) = Spells names bytes outcome
+ReadsAs names bytes (Ok outcome) = SpellsReport names bytes outcome
 ReadsAs names bytes (Err (Line number)) = IsBadLine names bytes number
 ReadsAs names bytes (Err (Ended number)) = IsEndedAt names bytes number
 ReadsAs names bytes (Err (OutOfMemory want)) = Unit {0}

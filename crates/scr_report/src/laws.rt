@@ -3,7 +3,7 @@ ghost use Rattle.std.specs.List.{list_any, concat};
 ghost use Rattle.scr_plan.specs.declared.given.Given.{Given};
 ghost use Rattle.scr_report.specs.Text.{name_at};
 ghost use Rattle.scr_report.specs.Outcome.{Outcome, verdict_lines, report_text};
-ghost use Rattle.scr_report.specs.Grammar.{Spells, AreCounts};
+ghost use Rattle.scr_report.specs.Grammar.{SpellsReport, AreCounts};
 ghost use Rattle.scr_report.specs.ReadBack.{ArePlain, Grow, IsPlain};
 
 use crate::names::Names;
@@ -15,7 +15,7 @@ use scr_plan::{CoreCounts, Given};
 /// differ and hold no line feed, there are at most 16 cores, and the frames are numbered from 1 on in growing order.
 pub fn is_plain(names: &Names, report: &Report) -> bool
     ensures answer { MatchBool result (IsPlain names.now report.now) (IsPlain names.now report.now → ⊥) }
-    ensures read_back { IsTrue result → Spells names.now (report_text names.now report.now true) report.now }
+    ensures read_back { IsTrue result → SpellsReport names.now (report_text names.now report.now true) report.now }
 {
     let count = names.len();
     if report.totals.len() != count || report.cores.len() > MOST_CORES {

@@ -9,7 +9,7 @@ use Rattle.scr_plan.specs.declared.given.Given.{Given}
 use Rattle.scr_plan.specs.Counts.{delivered_count, kept_count, plan_counts, counts_up_to}
 use Rattle.scr_plan.specs.Delivered.{core_number, delivers, delivers_to}
 use Rattle.scr_plan.specs.Kept.{carries, carries_to, keeps}
-use Rattle.scr_plan.specs.Plan.{Plan, frame_count, row_of}
+use Rattle.scr_plan.specs.Plan.{Plan, frame_count, row_of_packet}
 use Rattle.scr_plan.proofs.Packets.{kept-delivered}
 use Rattle.scr_replica.specs.OneCore.{entries, given_at, given_with, kept_row, kept_rows, verdicts}
 use Rattle.scr_report.specs.Outcome.{report_of}
@@ -28,7 +28,7 @@ module _ (plan other : Plan) (same : IsSameRun plan other) where
   -- ---- the rows of kept packets
 
   kept_row-same : (p : ℕ) → kept_row other p ≡ kept_row plan p
-  kept_row-same p = if-same (keeps other p) (keeps plan p) (row_of other p) (row_of plan p) None (same.kept p) (same.rows p)
+  kept_row-same p = if-same (keeps other p) (keeps plan p) (row_of_packet other p) (row_of_packet plan p) None (same.kept p) (same.rows p)
 
   kept_rows-same : (p : ℕ) → kept_rows other p ≡ kept_rows plan p
   unfolding kept_rows
@@ -45,15 +45,15 @@ module _ (plan other : Plan) (same : IsSameRun plan other) where
     given_behind n kept row = record { number = n; verdict = verdict_after kept row }
 
     given-same : (n : ℕ) → delivers plan n ≡ true
-        → option_map (given_with verdict_after other n) (row_of other n) ≡ option_map (given_with verdict_after plan n) (row_of plan n)
+        → option_map (given_with verdict_after other n) (row_of_packet other n) ≡ option_map (given_with verdict_after plan n) (row_of_packet plan n)
     given-same n delivered =
-        (λ i. option_map (given_behind n (kept_rows-same (n - 1) i)) (row_of other n))
+        (λ i. option_map (given_behind n (kept_rows-same (n - 1) i)) (row_of_packet other n))
         ∙ ap (option_map (given_with verdict_after plan n)) (same.rows n (kept-delivered plan n delivered))
 
     given_at-same : (n : ℕ) → given_at verdict_after other n ≡ given_at verdict_after plan n
     given_at-same n =
-        if-same (delivers other n) (delivers plan n) (option_map (given_with verdict_after other n) (row_of other n))
-        (option_map (given_with verdict_after plan n) (row_of plan n)) None (same.delivered n) (given-same n)
+        if-same (delivers other n) (delivers plan n) (option_map (given_with verdict_after other n) (row_of_packet other n))
+        (option_map (given_with verdict_after plan n) (row_of_packet plan n)) None (same.delivered n) (given-same n)
 
     verdicts-same : verdicts verdict_after other ≡ verdicts verdict_after plan
     unfolding verdicts

@@ -6,7 +6,7 @@ use Rattle.std.proofs.lemmas.Bool.Decides.{nat_tests}
 use Rattle.std.proofs.lemmas.List.{length-drop, length-take-le}
 use Rattle.std.proofs.lemmas.List.Elements.{All-drop, All-take}
 use Rattle.scr_base.specs.declared.row.Row.{Row}
-use Rattle.scr_plan.specs.Plan.{Plan, IsPlan, frame_count, row_of}
+use Rattle.scr_plan.specs.Plan.{Plan, IsPlan, frame_count, row_of_packet}
 use Rattle.scr_plan.specs.Kept.{first_carried}
 use Rattle.scr_wire.specs.Lane.{frame, rows_carried}
 use Rattle.scr_wire.specs.Spelling.{IsRow, HasSpelling}
@@ -41,7 +41,7 @@ rows-due plan n within =
     omega arith
 
 -- the rows that it carries
-pub written-carries : (plan : Plan) (n p : ℕ) → n ≤ frame_count plan → first_carried plan.history n ≤ p → p ≤ n → carried_row (written plan n) p ≡ row_of plan p
+pub written-carries : (plan : Plan) (n p : ℕ) → n ≤ frame_count plan → first_carried plan.history n ≤ p → p ≤ n → carried_row (written plan n) p ≡ row_of_packet plan p
 unfolding carried_row
 written-carries plan n p within from to =
     let first : ℕ = first_carried plan.history n in
@@ -58,7 +58,7 @@ written-carries plan n p within from to =
 
 -- a row is that of packet p, where there is one
 abbrev pub Agrees : Plan → (p : ℕ) → Option Row → Type 0
-Agrees plan p row = (row ≡ None) ⊎ (row ≡ row_of plan p)
+Agrees plan p row = (row ≡ None) ⊎ (row ≡ row_of_packet plan p)
 
 pub written-agrees : (plan : Plan) (n p : ℕ) → n ≤ frame_count plan → Agrees plan p (carried_row (written plan n) p)
 written-agrees plan n p within =
@@ -89,7 +89,7 @@ no-clash : (plan : Plan) (p : ℕ) (one other : Option Row) → Agrees plan p on
 no-clash plan p None other first second = refl
 no-clash plan p (Some a) None first second = refl
 no-clash plan p (Some a) (Some b) first second =
-    let same : b ≡ a = both-some a b (row_of plan p) first second in
+    let same : b ≡ a = both-some a b (row_of_packet plan p) first second in
     ap (λ (x : Row). not (same_row a x)) same ∙ ap not (same_row-same a)
 
 -- some frames with numbers below n have only rows of the plan

@@ -10,7 +10,7 @@ use Rattle.scr_base.specs.declared.row.Row.{Row}
 use Rattle.scr_plan.specs.Drops.{has_number}
 use Rattle.scr_plan.specs.Delays.{delay_of}
 use Rattle.scr_plan.specs.Link.{loses}
-use Rattle.scr_plan.specs.Plan.{Plan, IsPlan, HasParts, frame_count, row_of}
+use Rattle.scr_plan.specs.Plan.{Plan, IsPlan, HasParts, frame_count, row_of_packet}
 use Rattle.scr_plan.specs.Delivered.{delivers}
 use Rattle.scr_plan.specs.Kept.{first_carried, carries, keeps}
 use Rattle.scr_plan.proofs.Delivering.{delivers-sends}
@@ -107,7 +107,7 @@ module _ (plan : Plan) (is : IsPlan plan) where
   known p (Some row) other there (inl none) = absurd cc
   known p (Some row) other there (inr same) = same
 
-  row-there : (n p : ℕ) → first_carried plan.history n ≤ p → p ≤ n → 1 ≤ n → n ≤ count → row_of plan p ≢ None
+  row-there : (n p : ℕ) → first_carried plan.history n ≤ p → p ≤ n → 1 ≤ n → n ≤ count → row_of_packet plan p ≢ None
   row-there n p from to start within = there plan.rows (p - 1) (omega arith)
     where
       there : (rows : List Row) (i : ℕ) → i < length rows → slice_get rows i ≢ None
@@ -115,7 +115,7 @@ module _ (plan : Plan) (is : IsPlan plan) where
       there (row ∷ rows) zero below = λ e. absurd cc
       there (row ∷ rows) (suc i) below = there rows i (omega arith)
 
-  same-rows : (p : ℕ) → keeps plan p ≡ true → row_of read_of p ≡ row_of plan p
+  same-rows : (p : ℕ) → keeps plan p ≡ true → row_of_packet read_of p ≡ row_of_packet plan p
   unfolding keeps
   same-rows p kept =
       let some = IsSome-from_any (λ n. delivers plan n && carries plan.history n p) count kept in
@@ -132,7 +132,7 @@ module _ (plan : Plan) (is : IsPlan plan) where
       λ none. row-there some.number p from to some.from some.to (sym carried ∙ none) in
       got (λ k. unwrap_or (row_in frames k) no_row) 1 count (p - 1) (omega arith)
       ∙ ap (λ (k : ℕ). Some (unwrap_or (row_in frames k) no_row)) at
-      ∙ known p (row_in frames p) (row_of plan p) (written-there plan 1 count some.number p some.from (omega arith) delivered there)
+      ∙ known p (row_in frames p) (row_of_packet plan p) (written-there plan 1 count some.number p some.from (omega arith) delivered there)
       (written-rows plan 1 count p (omega arith))
 
   same-run : IsSameRun plan read_of

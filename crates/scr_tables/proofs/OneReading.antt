@@ -3,7 +3,7 @@ use Rattle.std.proofs.Common.{◌≡◌, ℕ, ◌<◌, Bool, true, false, List, 
 use Rattle.std.specs.Result.{IsOk}
 use Rattle.std.proofs.lemmas.List.{same_lists}
 use Rattle.scr_tables.specs.Rules.{lacks_any}
-use Rattle.scr_tables.specs.Spelling.{read_at, place_of, SpellsRules, Spells, IsFaulty, IsIncomplete, IsRefused}
+use Rattle.scr_tables.specs.Spelling.{read_at, place_of, SpellsRules, SpellsTable, IsFaulty, IsIncomplete, IsRefused}
 use Rattle.scr_tables.specs.declared.rule.Rule.{Rule}
 use Rattle.scr_tables.specs.declared.reading.TableCause.{TableCause}
 use Rattle.scr_tables.proofs.Spelled.{some_rule}
@@ -30,18 +30,18 @@ rules-same text a b spells_a spells_b =
     Ok-same (get_or a k d) (get_or b k d) (read_at text k) (spells_a.each k d within)
     (spells_b.each k d (omega (arith, spells_a.count, spells_b.count))))
 
-pub Spells-same : (text : List ℕ) (a b : List Rule) → Spells text a → Spells text b → a ≡ b
-Spells-same text a b spells_a spells_b = rules-same text a b spells_a.spelled spells_b.spelled
+pub SpellsTable-same : (text : List ℕ) (a b : List Rule) → SpellsTable text a → SpellsTable text b → a ≡ b
+SpellsTable-same text a b spells_a spells_b = rules-same text a b spells_a.spelled spells_b.spelled
 
 rules-not_faulty : (text : List ℕ) (rules : List Rule) (cause : TableCause) (place : ℕ) → SpellsRules text rules → IsFaulty text cause place → ⊥
 rules-not_faulty text rules cause place spelled faulty =
     not_both cause (get_or rules faulty.faulty some_rule) (read_at text faulty.faulty) faulty.why
     (spelled.each faulty.faulty some_rule (omega (arith, spelled.count, faulty.within)))
 
-pub Spells-not_refused : (text : List ℕ) (rules : List Rule) (cause : TableCause) (place : ℕ)
-    → Spells text rules → IsRefused text cause place → ⊥
-Spells-not_refused text rules cause place spells (inl faulty) = rules-not_faulty text rules cause place spells.spelled faulty
-Spells-not_refused text rules cause place spells (inr lacking) =
+pub SpellsTable-not_refused : (text : List ℕ) (rules : List Rule) (cause : TableCause) (place : ℕ)
+    → SpellsTable text rules → IsRefused text cause place → ⊥
+SpellsTable-not_refused text rules cause place spells (inl faulty) = rules-not_faulty text rules cause place spells.spelled faulty
+SpellsTable-not_refused text rules cause place spells (inr lacking) =
     let same : lacking.rules ≡ rules = rules-same text lacking.rules rules lacking.spelled spells.spelled in
     not_true (lacks_any rules place) (ap (λ (rs : List Rule). lacks_any rs place) (sym same) ∙ lacking.lacks) (spells.complete place)
 

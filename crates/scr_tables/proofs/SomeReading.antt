@@ -3,7 +3,7 @@ use Rattle.std.proofs.Common.{◌≡◌, ℕ, zero, suc, ◌<◌, ◌≤◌, Boo
 use Rattle.std.proofs.lemmas.Bool.{cases_lt}
 use Rattle.std.proofs.lemmas.List.{length_push}
 use Rattle.scr_tables.specs.Rules.{lacks_any}
-use Rattle.scr_tables.specs.Spelling.{rule_texts, read_at, place_of, Spells, IsFaulty, IsRefused}
+use Rattle.scr_tables.specs.Spelling.{rule_texts, read_at, place_of, SpellsTable, IsFaulty, IsRefused}
 use Rattle.scr_tables.specs.declared.rule.Rule.{Rule}
 use Rattle.scr_tables.specs.declared.reading.TableCause.{TableCause}
 use Rattle.scr_tables.specs.declared.reading.TableCause.TheVariants.{NoAny}
@@ -56,7 +56,7 @@ least rules (suc n) = next (least rules n) (lacks_any rules n) refl
         ])
 
 abbrev HasReading : List ℕ → Type 0
-HasReading text = ((rules : List Rule) × Spells text rules) ⊎ ((cause : TableCause) × (place : ℕ) × IsRefused text cause place)
+HasReading text = ((rules : List Rule) × SpellsTable text rules) ⊎ ((cause : TableCause) × (place : ℕ) × IsRefused text cause place)
 
 pub some_reading : (text : List ℕ) → HasReading text
 some_reading text = from (front text (length (rule_texts text)) (omega arith))

@@ -126,7 +126,7 @@ pub record SpellsRules (text : List ℕ) (rules : List Rule) : Type 0 where
   pub each : (i : ℕ) (d : Rule) → i < length rules → read_at text i ≡ Ok (slice_index_or rules i d)
 
 -- a text spells a table: its rules, where each state that a run can hold has one for any packet
-pub record Spells (text : List ℕ) (rules : List Rule) : Type 0 where
+pub record SpellsTable (text : List ℕ) (rules : List Rule) : Type 0 where
   pub spelled : SpellsRules text rules
   pub complete : (state : ℕ) → lacks_any rules state ≡ false
 

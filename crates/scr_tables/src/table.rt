@@ -1,7 +1,7 @@
 ghost use Rattle.std.specs.Prelude.{◌≡◌, ◌<◌, ◌==◌, ℕ, List, All, true, false, Some, MatchResult, MatchOption};
 ghost use Rattle.std.specs.List.{list_any};
 ghost use Rattle.scr_tables.specs.Rules.{IsRule, IsTable, first_rule, can_be_held, has_any, lacks_any};
-ghost use Rattle.scr_tables.specs.Spelling.{Spells, RefusedBy};
+ghost use Rattle.scr_tables.specs.Spelling.{SpellsTable, RefusedBy};
 
 use crate::index::{STATES, StateRules, index};
 use crate::reading::{TableCause, TableError, read_rules};
@@ -40,7 +40,7 @@ impl Table {
     /// with a number up to 255 (TCP with all of these flags), and the verdict `P` (pass) or `D` (drop). Numbers are decimal,
     /// of any length and with any zeros in front.
     pub fn read(alloc: Global, text: &[u8]) -> Result<Self, TableError>
-        ensures { MatchResult result (λ table. Spells text.now table) (λ error. RefusedBy text.now error) }
+        ensures { MatchResult result (λ table. SpellsTable text.now table) (λ error. RefusedBy text.now error) }
     {
         let rules = read_rules(alloc, text)?;
         if let Some(state) = first_lacking(&rules) {

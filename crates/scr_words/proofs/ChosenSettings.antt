@@ -7,9 +7,9 @@ use Rattle.std.proofs.Math.Bridge.{le_prop}
 use Rattle.std.proofs.Math.Path.{PathP, to_path_p}
 use mathlib.Core.Bool.{Bool-set}
 use Rattle.scr_base.specs.Numbers.{is_number, number_of}
-use Rattle.scr_plan.proofs.OneReading.{Spells-same}
+use Rattle.scr_plan.proofs.OneReading.{SpellsRanges-same}
 use Rattle.scr_plan.specs.Link.{Link}
-use Rattle.scr_plan.specs.Spelling.{read_at, Spells}
+use Rattle.scr_plan.specs.Spelling.{read_at, SpellsRanges}
 use Rattle.scr_plan.specs.DelaySpelling.{delay_read_at, SpellsDelays}
 use Rattle.scr_plan.specs.declared.drops.DropRange.{DropRange}
 use Rattle.scr_plan.specs.declared.delays.FrameDelay.{FrameDelay}
@@ -36,7 +36,7 @@ use Rattle.scr_words.specs.declared.program_name.OneName.TheVariants as name
 use Rattle.scr_words.specs.declared.program_name.ProgramName.{ProgramName}
 use Rattle.scr_words.specs.declared.program_name.ProgramName.TheVariants as program
 use Rattle.scr_words.specs.declared.operand.Operand.TheVariants as operand
-use Rattle.scr_words.specs.Operands.{table}
+use Rattle.scr_words.specs.Operands.{line_of}
 use Rattle.scr_words.specs.WordParts.{given, program_in, first_in, second_in}
 use Rattle.scr_words.specs.WordFaults.{setting_fault, lacks_operand}
 use Rattle.scr_words.specs.WordTests.{HaveFaultlessValues}
@@ -232,10 +232,10 @@ module _ (command : Command) (operands : List (List ℕ)) (values : HaveFaultles
         few_flows = at_most flows settings.few_flows flows_inside.1 i;
       })
 
-  table-same : (a b : TableSettings) → tables.Spells (value_for operand.Table operands) a.table → tables.Spells (value_for operand.Table operands) b.table
+  table-same : (a b : TableSettings) → tables.SpellsTable (value_for operand.Table operands) a.table → tables.SpellsTable (value_for operand.Table operands) b.table
       → a.flows ≡ number_for operand.Flows operands → b.flows ≡ number_for operand.Flows operands → a ≡ b
   table-same a b spells_a spells_b flows_a flows_b =
-      let table = tables_are.Spells-same (value_for operand.Table operands) a.table b.table spells_a spells_b in
+      let table = tables_are.SpellsTable-same (value_for operand.Table operands) a.table b.table spells_a spells_b in
       let flows = flows_a ∙ sym flows_b in
       λ i. record {
         table = table i;
@@ -262,10 +262,10 @@ module _ (command : Command) (operands : List (List ℕ)) (values : HaveFaultles
   program-same (Table a) (One b) has_a has_b = absurd (cc (has_a.0, has_b.0))
   program-same (Table a) (Chain b d) has_a has_b = absurd (cc (has_a.0, has_b.0))
 
-  pub drops_some : (ranges : List DropRange) × Spells (value_for operand.Drop operands) ranges
+  pub drops_some : (ranges : List DropRange) × SpellsRanges (value_for operand.Drop operands) ranges
   drops_some = ranges-some Drop (value_for operand.Drop operands) (value_for-passes command operand.Drop operands values (list_fault-empty read_at Drop))
 
-  pub repeats_some : (ranges : List DropRange) × Spells (value_for operand.Repeat operands) ranges
+  pub repeats_some : (ranges : List DropRange) × SpellsRanges (value_for operand.Repeat operands) ranges
   repeats_some = ranges-some Repeat (value_for operand.Repeat operands) (value_for-passes command operand.Repeat operands values (list_fault-empty read_at Repeat))
 
   pub delays_some : (delays : List FrameDelay) × SpellsDelays (value_for operand.Delay operands) delays
@@ -303,7 +303,7 @@ module _ (command : Command) (operands : List (List ℕ)) (values : HaveFaultles
   abbrev SomeProgram : Type 0
   SomeProgram = ((settings : ProgramSettings) × HasProgram command operands settings) ⊎ (lacks_operand command operands ≡ true)
 
-  table_by : program_in command operands ≡ Some program.Table → (found : Option (List ℕ)) → given (table operand.Table).name operands ≡ found → SomeProgram
+  table_by : program_in command operands ≡ Some program.Table → (found : Option (List ℕ)) → given (line_of operand.Table).name operands ≡ found → SomeProgram
   table_by is None absent = inr (lacks-table command operands is absent)
   table_by is (Some text) found =
       let (rules, spells) = table-some text (values operand.Table text found) in
@@ -315,7 +315,7 @@ module _ (command : Command) (operands : List (List ℕ)) (values : HaveFaultles
         some = flows_inside.0;
         few = flows_inside.1;
       } in
-      inl (Table settings, (is, subst (λ (t : List ℕ). tables.Spells t rules) (sym value) spells, refl))
+      inl (Table settings, (is, subst (λ (t : List ℕ). tables.SpellsTable t rules) (sym value) spells, refl))
 
   chain_by : program_in command operands ≡ Some program.Chain → (first second : Option OneName) → first_in operands ≡ first → second_in operands ≡ second → SomeProgram
   chain_by is None second none is_second = inr (lacks-first command operands values is none)
@@ -328,7 +328,7 @@ module _ (command : Command) (operands : List (List ℕ)) (values : HaveFaultles
   program_by (Some (program.One one)) is =
       inl (One (made one), (is ∙ ap (λ (n : OneName). Some (program.One n)) (sym (name_of-made one)), HasNumbers-made one))
   program_by (Some program.Chain) is = chain_by is (first_in operands) (second_in operands) refl refl
-  program_by (Some program.Table) is = table_by is (given (table operand.Table).name operands) refl
+  program_by (Some program.Table) is = table_by is (given (line_of operand.Table).name operands) refl
 
   settings_by : (program : ProgramSettings) → HasProgram command operands program
       → (settings : RunSettings) × (settings.command ≡ command) × AreChosen operands settings
@@ -373,8 +373,8 @@ Shape-same a b cores history link ring threads = λ i. record {
 
 HasLink-same : (operands : List (List ℕ)) (a b : Link) → HasLink operands a → HasLink operands b → a ≡ b
 HasLink-same operands a b of_a of_b =
-    let drops = Spells-same (value_for operand.Drop operands) a.drops b.drops of_a.drops of_b.drops in
-    let repeats = Spells-same (value_for operand.Repeat operands) a.repeats b.repeats of_a.repeats of_b.repeats in
+    let drops = SpellsRanges-same (value_for operand.Drop operands) a.drops b.drops of_a.drops of_b.drops in
+    let repeats = SpellsRanges-same (value_for operand.Repeat operands) a.repeats b.repeats of_a.repeats of_b.repeats in
     let delays = delays-same (value_for operand.Delay operands) a.delays b.delays of_a.delays of_b.delays in
     let missing = of_a.missing ∙ sym of_b.missing in
     λ i. record { drops = drops i; repeats = repeats i; delays = delays i; missing = missing i }

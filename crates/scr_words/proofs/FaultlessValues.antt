@@ -11,7 +11,7 @@ use Rattle.scr_words.specs.declared.operand.Operand.{Operand}
 use Rattle.scr_words.specs.declared.operand.Operand.TheVariants as operand
 use Rattle.scr_words.specs.declared.operand.Form.{Form}
 use Rattle.scr_words.specs.declared.operand.Form.TheVariants.{OneProgram, Number, DropList, RepeatList, DelayList, YesNo, ThreePorts, FirstProgram, SecondProgram, TableText}
-use Rattle.scr_words.specs.Operands.{table, is_numeric, IsWithin}
+use Rattle.scr_words.specs.Operands.{line_of, is_numeric, IsWithin}
 use Rattle.scr_words.specs.WordParts.{given}
 use Rattle.scr_words.specs.WordFaults.{setting_fault, value_fault, number_fault}
 use Rattle.scr_words.specs.WordTests.{HaveFaultlessValues}
@@ -62,15 +62,15 @@ number_fault-none command SecondProgram value numeric none = absurd cc
 number_fault-none command TableText value numeric none = absurd cc
 
 module _ (command : Command) (operands : List (List ℕ)) (values : HaveFaultlessValues command operands) where
-  pub number-inside : (operand : Operand) → IsTrue (is_numeric (table operand).form) → value_fault command (table operand).form (table operand).default ≡ None
-      → IsWithin (table operand).form (number_for operand operands)
+  pub number-inside : (operand : Operand) → IsTrue (is_numeric (line_of operand).form) → value_fault command (line_of operand).form (line_of operand).default ≡ None
+      → IsWithin (line_of operand).form (number_for operand operands)
   number-inside operand numeric default =
-      value-inside command (table operand).form (value_for operand operands) numeric (value_for-passes command operand operands values default)
+      value-inside command (line_of operand).form (value_for operand operands) numeric (value_for-passes command operand operands values default)
 
   pub history-short : history_for operands ≤ longest_history
-  history-short = short (given (table operand.History).name operands) refl
+  history-short = short (given (line_of operand.History).name operands) refl
     where
-      short : (found : Option (List ℕ)) → given (table operand.History).name operands ≡ found
+      short : (found : Option (List ℕ)) → given (line_of operand.History).name operands ≡ found
           → option_map_or number_of found (number_for operand.Cores operands - 1) ≤ longest_history
       short None is = (let cores = number-inside operand.Cores refl refl in omega (arith, cores.1))
-      short (Some text) is = (value-inside command (table operand.History).form text refl (values operand.History text is)).1
+      short (Some text) is = (value-inside command (line_of operand.History).form text refl (values operand.History text is)).1

@@ -5,7 +5,7 @@ use Rattle.scr_program.specs.declared.setting.SettingError.{SettingError}
 use Rattle.scr_words.specs.declared.settings.Command.{Command}
 use Rattle.scr_words.specs.declared.operand.Operand.{Operand}
 use Rattle.scr_words.specs.declared.word_fault.WordCause.{WordCause}
-use Rattle.scr_words.specs.Operands.{table}
+use Rattle.scr_words.specs.Operands.{line_of}
 use Rattle.scr_words.specs.WordParts.{given}
 use Rattle.scr_words.specs.WordFaults.{value_fault, setting_fault, setting_cause}
 use Rattle.scr_words.specs.WordTests.{HaveFaultlessValues}
@@ -19,10 +19,10 @@ unwrap_or-passes fault (Some value) default passes default_passes = passes value
 
 -- the value of an operand passes its test, where the default does
 pub value_for-passes : (command : Command) (operand : Operand) (operands : List (List ℕ)) → HaveFaultlessValues command operands
-    → value_fault command (table operand).form (table operand).default ≡ None
-    → value_fault command (table operand).form (value_for operand operands) ≡ None
+    → value_fault command (line_of operand).form (line_of operand).default ≡ None
+    → value_fault command (line_of operand).form (value_for operand operands) ≡ None
 value_for-passes command operand operands passes default_passes =
-    unwrap_or-passes (value_fault command (table operand).form) (given (table operand).name operands) (table operand).default
+    unwrap_or-passes (value_fault command (line_of operand).form) (given (line_of operand).name operands) (line_of operand).default
     (passes operand) default_passes
 
 -- a setting without a fault is read

@@ -9,7 +9,7 @@ use Rattle.scr_words.specs.declared.settings.ProgramSettings.TheVariants.{One, C
 use Rattle.scr_words.specs.declared.program_name.ProgramName.{ProgramName}
 use Rattle.scr_words.specs.declared.program_name.ProgramName.TheVariants as program
 use Rattle.scr_words.specs.declared.operand.Operand.TheVariants as operand
-use Rattle.scr_words.specs.Operands.{table, all_programs, program_name, program_named, knows, runs}
+use Rattle.scr_words.specs.Operands.{line_of, all_programs, program_name, program_named, knows, runs}
 use Rattle.scr_words.specs.WordParts.{given}
 use Rattle.scr_words.specs.GivenSettings.{HasProgram}
 
@@ -38,5 +38,5 @@ knows-named command (Some text) named is =
 pub runs-from : (command : Command) (operands : List (List ℕ)) (settings : ProgramSettings) → HasProgram command operands settings
     → runs command settings ≡ true
 runs-from command operands (One settings) has = refl
-runs-from command operands (Chain first second) has = knows-named command (given (table operand.Program).name operands) program.Chain has.0
-runs-from command operands (Table settings) has = knows-named command (given (table operand.Program).name operands) program.Table has.0
+runs-from command operands (Chain first second) has = knows-named command (given (line_of operand.Program).name operands) program.Chain has.0
+runs-from command operands (Table settings) has = knows-named command (given (line_of operand.Program).name operands) program.Table has.0

@@ -13,7 +13,7 @@ use Rattle.scr_words.specs.declared.settings.ProgramSettings.{ProgramSettings}
 use Rattle.scr_words.specs.declared.settings.ProgramSettings.TheVariants as settings
 use Rattle.scr_words.specs.declared.settings.RunSettings.{RunSettings}
 use Rattle.scr_words.specs.declared.operand.Operand.TheVariants as operand
-use Rattle.scr_words.specs.Operands.{all_firsts, all_ones, command_named, one_named, program_named, table}
+use Rattle.scr_words.specs.Operands.{all_firsts, all_ones, command_named, one_named, program_named, line_of}
 use Rattle.scr_words.specs.WordParts.{given}
 use Rattle.scr_words.specs.WordFaults.{fault_at, lacks_operand, AreFaultless, IsFirstFault, IsMissing, AreRefused}
 use Rattle.scr_words.specs.TextFaults.{table_fault}
@@ -83,7 +83,7 @@ named-given named None name is = absurd cc
 named-given named (Some value) name is = refl
 
 -- a table that is spelled was given, since no text but one that is given spells rules
-table-given : (found : Option (List ℕ)) (rules : List Rule) → tables.Spells (unwrap_or found []) rules → is_none found ≡ false
+table-given : (found : Option (List ℕ)) (rules : List Rule) → tables.SpellsTable (unwrap_or found []) rules → is_none found ≡ false
 table-given None rules spells = absurd (some-none (Table Empty 0) (table_fault []) table_fault-empty (table_fault-none [] rules spells))
   where
     some-none : (a : WordCause) (x : Option WordCause) → x ≡ Some a → x ≡ None → ⊥
@@ -93,15 +93,15 @@ table-given (Some text) rules spells = refl
 -- accepted words lack no operand
 lacks-none : (command : Command) (operands : List (List ℕ)) (settings : ProgramSettings) → HasProgram command operands settings
     → lacks_operand command operands ≡ false
-lacks-none command operands (settings.One one) has = rw (has.0, named-given (program_named command) (given (table operand.Program).name operands) _ has.0) refl
+lacks-none command operands (settings.One one) has = rw (has.0, named-given (program_named command) (given (line_of operand.Program).name operands) _ has.0) refl
 lacks-none command operands (settings.Chain first second) has =
-    let program = named-given (program_named command) (given (table operand.Program).name operands) _ has.0 in
-    let one = named-given (one_named all_firsts) (given (table operand.First).name operands) _ has.1 in
-    let other = named-given (one_named all_ones) (given (table operand.Second).name operands) _ has.2 in
+    let program = named-given (program_named command) (given (line_of operand.Program).name operands) _ has.0 in
+    let one = named-given (one_named all_firsts) (given (line_of operand.First).name operands) _ has.1 in
+    let other = named-given (one_named all_ones) (given (line_of operand.Second).name operands) _ has.2 in
     rw (has.0, program, one, other) refl
 lacks-none command operands (settings.Table rules) has =
-    let program = named-given (program_named command) (given (table operand.Program).name operands) _ has.0 in
-    let text = table-given (given (table operand.Table).name operands) rules.table has.1 in
+    let program = named-given (program_named command) (given (line_of operand.Program).name operands) _ has.0 in
+    let text = table-given (given (line_of operand.Table).name operands) rules.table has.1 in
     rw (has.0, program, text) refl
 
 true-false : (b : Bool) → b ≡ true → b ≡ false → ⊥

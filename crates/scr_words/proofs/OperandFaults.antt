@@ -6,7 +6,7 @@ use Rattle.scr_words.specs.declared.word_fault.WordCause.TheVariants.{NoEquals, 
 use Rattle.scr_words.specs.declared.settings.Command.{Command}
 use Rattle.scr_words.specs.declared.program_name.Choice.{Choice}
 use Rattle.scr_words.specs.declared.operand.Operand.{Operand}
-use Rattle.scr_words.specs.Operands.{table, operand_named, is_taken}
+use Rattle.scr_words.specs.Operands.{line_of, operand_named, is_taken}
 use Rattle.scr_words.specs.WordParts.{has_equals, name_in, value_in, is_named, chosen}
 use Rattle.scr_words.specs.WordFaults.{operand_fault, given_fault, fault_at}
 
@@ -21,16 +21,16 @@ module _ (command : Command) (choice : Choice) (before : List (List ℕ)) (word 
   fault-unknown_name has unknown = rw (has, unknown) refl
 
   module _ (operand : Operand) (has : has_equals word ≡ true) (known : operand_named (name_in word) ≡ Some operand) where
-    pub fault-not_here : is_taken command choice (table operand).taker ≡ false → operand_fault command choice before word ≡ Some NotHere
+    pub fault-not_here : is_taken command choice (line_of operand).taker ≡ false → operand_fault command choice before word ≡ Some NotHere
     unfolding operand_fault
     fault-not_here elsewhere = rw (has, known, elsewhere) refl
 
-    pub fault-twice : is_taken command choice (table operand).taker ≡ true → list_any (is_named (name_in word)) before ≡ true
+    pub fault-twice : is_taken command choice (line_of operand).taker ≡ true → list_any (is_named (name_in word)) before ≡ true
         → operand_fault command choice before word ≡ Some Twice
     unfolding operand_fault
     fault-twice here again = rw (has, known, here, again) refl
 
-    pub fault-of_value : is_taken command choice (table operand).taker ≡ true → list_any (is_named (name_in word)) before ≡ false
+    pub fault-of_value : is_taken command choice (line_of operand).taker ≡ true → list_any (is_named (name_in word)) before ≡ false
         → operand_fault command choice before word ≡ given_fault command before operand (value_in word)
     unfolding operand_fault
     fault-of_value here once = rw (has, known, here, once) refl

@@ -5,7 +5,7 @@ use Rattle.std.specs.List.{find, range_with_len}
 use Rattle.std.specs.Result.{IsOk}
 use Rattle.std.proofs.lemmas.Bool.{cases_lt}
 use Rattle.std.proofs.lemmas.List.{same_lists, get_or-map, length-map}
-use Rattle.scr_plan.specs.Spelling.{pieces_of, place_of, read_at, Spells, IsRefused}
+use Rattle.scr_plan.specs.Spelling.{pieces_of, place_of, read_at, SpellsRanges, IsRefused}
 use Rattle.scr_plan.specs.DelaySpelling.{delay_read_at, SpellsDelays, IsDelayRefused}
 use Rattle.scr_plan.specs.declared.drops.DropRange.{DropRange}
 use Rattle.scr_plan.specs.declared.delays.FrameDelay.{FrameDelay}
@@ -123,7 +123,7 @@ module _ {A C : Type 0} (read : List ℕ → ℕ → Result A C) (told : C → �
 
 -- drop lists, and lists of repeats
 module _ (told : DropCause → ℕ → WordCause) where
-  pub ranges-none : (text : List ℕ) (ranges : List DropRange) → Spells text ranges → list_fault read_at told text ≡ None
+  pub ranges-none : (text : List ℕ) (ranges : List DropRange) → SpellsRanges text ranges → list_fault read_at told text ≡ None
   unfolding list_fault
   ranges-none [] ranges spells = refl
   ranges-none (byte ∷ text) ranges spells =
@@ -137,7 +137,7 @@ module _ (told : DropCause → ℕ → WordCause) where
   ranges-refused (byte ∷ text) refusal place refused =
       pieces-refused read_at told (byte ∷ text) refused.faulty place refusal refused.within refused.before refused.why refused.where_it_stands
 
-  pub ranges-some : (text : List ℕ) → list_fault read_at told text ≡ None → (ranges : List DropRange) × Spells text ranges
+  pub ranges-some : (text : List ℕ) → list_fault read_at told text ≡ None → (ranges : List DropRange) × SpellsRanges text ranges
   unfolding list_fault
   ranges-some [] none = ([], refl)
   ranges-some (byte ∷ text) none =
@@ -206,7 +206,7 @@ pub table_fault-empty : table_fault [] ≡ Some (Table Empty 0)
 unfolding table_fault
 table_fault-empty = refl
 
-pub table_fault-none : (text : List ℕ) (rules : List Rule) → tables.Spells text rules → table_fault text ≡ None
+pub table_fault-none : (text : List ℕ) (rules : List Rule) → tables.SpellsTable text rules → table_fault text ≡ None
 unfolding table_fault
 table_fault-none text rules spells =
     let pieces = pieces-none tables.read_at Table text (λ i below. Ok-is _ (get_or rules i some_rule) (spells.spelled.each i some_rule (omega (arith, spells.spelled.count)))) in
@@ -244,10 +244,10 @@ table_fault-refused text refusal place (inl faulty) = faulty-refused text refusa
 table_fault-refused text refusal place (inr lacking) = incomplete-refused text refusal place lacking
 
 -- a table without a fault spells some rules
-pub table-some : (text : List ℕ) → table_fault text ≡ None → (rules : List Rule) × tables.Spells text rules
+pub table-some : (text : List ℕ) → table_fault text ≡ None → (rules : List Rule) × tables.SpellsTable text rules
 table-some text none = by (some_reading text)
   where
-    by : ((rules : List Rule) × tables.Spells text rules) ⊎ ((cause : TableCause) × (place : ℕ) × tables.IsRefused text cause place)
-        → (rules : List Rule) × tables.Spells text rules
+    by : ((rules : List Rule) × tables.SpellsTable text rules) ⊎ ((cause : TableCause) × (place : ℕ) × tables.IsRefused text cause place)
+        → (rules : List Rule) × tables.SpellsTable text rules
     by (inl spelled) = spelled
     by (inr (cause, place, refused)) = absurd (none-some (Table cause place) (table_fault text) none (table_fault-refused text cause place refused))

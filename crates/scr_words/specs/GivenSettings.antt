@@ -4,7 +4,7 @@ use Rattle.std.specs.Option.{option_map_or}
 use Rattle.std.specs.Str.{bytes_eq}
 use Rattle.scr_base.specs.Numbers.{number_of}
 use Rattle.scr_plan.specs.Link.{Link}
-use Rattle.scr_plan.specs.Spelling.{Spells}
+use Rattle.scr_plan.specs.Spelling.{SpellsRanges}
 use Rattle.scr_plan.specs.DelaySpelling.{SpellsDelays}
 use Rattle.scr_knock.specs.Ports.{ports_in}
 use Rattle.scr_tables.specs.Spelling as tables
@@ -21,13 +21,13 @@ use Rattle.scr_words.specs.declared.program_name.OneName.TheVariants as name
 use Rattle.scr_words.specs.declared.program_name.ProgramName.TheVariants as program
 use Rattle.scr_words.specs.declared.operand.Operand.{Operand}
 use Rattle.scr_words.specs.declared.operand.Operand.TheVariants as operand
-use Rattle.scr_words.specs.Operands.{table, command_named}
+use Rattle.scr_words.specs.Operands.{line_of, command_named}
 use Rattle.scr_words.specs.WordParts.{given, program_in, first_in, second_in}
 use Rattle.scr_words.specs.WordFaults.{AreFaultless}
 
 -- the value of an operand: that of its word, or the default
 abbrev pub value_for : Operand → List (List ℕ) → List ℕ
-value_for operand operands = unwrap_or (given (table operand).name operands) (table operand).default
+value_for operand operands = unwrap_or (given (line_of operand).name operands) (line_of operand).default
 
 abbrev pub number_for : Operand → List (List ℕ) → ℕ
 number_for operand operands = number_of (value_for operand operands)
@@ -35,7 +35,7 @@ number_for operand operands = number_of (value_for operand operands)
 -- the history has no default of its own: it is one less than the cores
 abbrev pub history_for : List (List ℕ) → ℕ
 history_for operands =
-    option_map_or number_of (given (table operand.History).name operands) (number_for operand.Cores operands - 1)
+    option_map_or number_of (given (line_of operand.History).name operands) (number_for operand.Cores operands - 1)
 
 -- the ports that a text spells
 abbrev pub HasPorts : List ℕ → KnockSettings → Type 0
@@ -75,13 +75,13 @@ HasProgram command operands (Chain first second) = (program_in command operands 
     × HasNumbers operands first
     × HasNumbers operands second
 HasProgram command operands (Table settings) = (program_in command operands ≡ Some program.Table)
-    × tables.Spells (value_for operand.Table operands) settings.table
+    × tables.SpellsTable (value_for operand.Table operands) settings.table
     × (settings.flows ≡ number_for operand.Flows operands)
 
 -- what lies between the sequencer and the cores
 pub record HasLink (operands : List (List ℕ)) (link : Link) : Type 0 where
-  pub drops : Spells (value_for operand.Drop operands) link.drops
-  pub repeats : Spells (value_for operand.Repeat operands) link.repeats
+  pub drops : SpellsRanges (value_for operand.Drop operands) link.drops
+  pub repeats : SpellsRanges (value_for operand.Repeat operands) link.repeats
   pub delays : SpellsDelays (value_for operand.Delay operands) link.delays
   pub missing : link.missing ≡ []
 

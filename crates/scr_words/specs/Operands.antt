@@ -100,28 +100,28 @@ abbrev pub taker_of : OneName → Taker
 taker_of one = taker.Program (program.One one)
 
 -- The table. Programs and a table have no default, and the default history is one less than the cores.
-abbrev pub table : Operand → Line
-table operand.Program = line (codes "program") taker.Every OneProgram []
-table operand.Flows = line (codes "flows") taker.Every (Number 1 MOST_FLOWS) (codes "4096")
-table operand.Cores = line (codes "cores") taker.Spraying (Number 1 most_cores) (codes "1")
-table operand.History = line (codes "history") taker.Spraying (Number 0 longest_history) []
-table operand.Drop = line (codes "drop") taker.Spraying DropList []
-table operand.Repeat = line (codes "repeat") taker.Spraying RepeatList []
-table operand.Delay = line (codes "delay") taker.Spraying DelayList []
-table operand.Ring = line (codes "ring") taker.WithCores (Number 1 most_ring) (codes "1024")
-table operand.Threads = line (codes "threads") taker.WithCores YesNo (codes "yes")
-table operand.Start = line (codes "start") taker.LoadAlone (Number 0 18446744073709551615) (codes "0")
-table operand.Frames = line (codes "frames") taker.LoadAlone (Number 0 most_frames) (codes "1000")
-table operand.Hosts = line (codes "hosts") taker.LoadAlone (Number 1 most_hosts) (codes "16")
-table operand.Threshold = line (codes "threshold") (taker_of Ddos) (Number 0 4294967295) (codes "1000")
-table operand.Bytes = line (codes "bytes") (taker_of Heavy) (Number 1 1000000000000) (codes "1000000")
-table operand.Rate = line (codes "rate") (taker_of Bucket) (Number 0 1000000000) (codes "1000")
-table operand.Burst = line (codes "burst") (taker_of Bucket) (Number 1 1000000000) (codes "100")
-table operand.Ports = line (codes "ports") (taker_of Knock) ThreePorts (codes "7000,8000,9000")
-table operand.Idle = line (codes "idle") (taker_of Conn) (Number 1 10000000000000) (codes "60000000")
-table operand.First = line (codes "first") (taker.Program program.Chain) FirstProgram []
-table operand.Second = line (codes "second") (taker.Program program.Chain) SecondProgram []
-table operand.Table = line (codes "table") (taker.Program program.Table) TableText []
+abbrev pub line_of : Operand → Line
+line_of operand.Program = line (codes "program") taker.Every OneProgram []
+line_of operand.Flows = line (codes "flows") taker.Every (Number 1 MOST_FLOWS) (codes "4096")
+line_of operand.Cores = line (codes "cores") taker.Spraying (Number 1 most_cores) (codes "1")
+line_of operand.History = line (codes "history") taker.Spraying (Number 0 longest_history) []
+line_of operand.Drop = line (codes "drop") taker.Spraying DropList []
+line_of operand.Repeat = line (codes "repeat") taker.Spraying RepeatList []
+line_of operand.Delay = line (codes "delay") taker.Spraying DelayList []
+line_of operand.Ring = line (codes "ring") taker.WithCores (Number 1 most_ring) (codes "1024")
+line_of operand.Threads = line (codes "threads") taker.WithCores YesNo (codes "yes")
+line_of operand.Start = line (codes "start") taker.LoadAlone (Number 0 18446744073709551615) (codes "0")
+line_of operand.Frames = line (codes "frames") taker.LoadAlone (Number 0 most_frames) (codes "1000")
+line_of operand.Hosts = line (codes "hosts") taker.LoadAlone (Number 1 most_hosts) (codes "16")
+line_of operand.Threshold = line (codes "threshold") (taker_of Ddos) (Number 0 4294967295) (codes "1000")
+line_of operand.Bytes = line (codes "bytes") (taker_of Heavy) (Number 1 1000000000000) (codes "1000000")
+line_of operand.Rate = line (codes "rate") (taker_of Bucket) (Number 0 1000000000) (codes "1000")
+line_of operand.Burst = line (codes "burst") (taker_of Bucket) (Number 1 1000000000) (codes "100")
+line_of operand.Ports = line (codes "ports") (taker_of Knock) ThreePorts (codes "7000,8000,9000")
+line_of operand.Idle = line (codes "idle") (taker_of Conn) (Number 1 10000000000000) (codes "60000000")
+line_of operand.First = line (codes "first") (taker.Program program.Chain) FirstProgram []
+line_of operand.Second = line (codes "second") (taker.Program program.Chain) SecondProgram []
+line_of operand.Table = line (codes "table") (taker.Program program.Table) TableText []
 
 abbrev pub all_operands : List Operand
 all_operands =
@@ -131,7 +131,7 @@ all_operands =
 
 -- the operand with a name
 unfoldable pub operand_named : List ℕ → Option Operand
-operand_named name = find (λ operand. bytes_eq (table operand).name name) all_operands
+operand_named name = find (λ operand. bytes_eq (line_of operand).name name) all_operands
 
 -- which commands spray the frames of a capture over cores, which run cores, and which makes its own capture
 abbrev pub sprays : Command → Bool

@@ -17,7 +17,7 @@ use Rattle.scr_words.specs.declared.operand.Operand.{Operand}
 use Rattle.scr_words.specs.declared.operand.Operand.TheVariants as operand
 use Rattle.scr_words.specs.declared.operand.Form.{Form}
 use Rattle.scr_words.specs.declared.operand.Form.TheVariants.{OneProgram, Number, DropList, RepeatList, DelayList, YesNo, ThreePorts, FirstProgram, SecondProgram, TableText}
-use Rattle.scr_words.specs.Operands.{all_firsts, all_ones, table, operand_named, command_named, one_named, program_named, is_taken, required}
+use Rattle.scr_words.specs.Operands.{all_firsts, all_ones, line_of, operand_named, command_named, one_named, program_named, is_taken, required}
 use Rattle.scr_words.specs.WordParts.{has_equals, name_in, value_in, is_named, given, is_absent, program_in, chosen}
 use Rattle.scr_words.specs.TextFaults.{drop_list_fault, repeat_list_fault, delay_list_fault, table_fault}
 
@@ -52,7 +52,7 @@ value_fault command TableText value = table_fault value
 -- the fault of a word where the other program of a chain is named before and has this value too
 abbrev pub repeated : List (List ℕ) → Operand → List ℕ → Option WordCause
 repeated before other value =
-    if option_map_or (bytes_eq value) (given (table other).name before) false then Some cause.Same else None
+    if option_map_or (bytes_eq value) (given (line_of other).name before) false then Some cause.Same else None
 
 abbrev pub same_fault : List (List ℕ) → Operand → List ℕ → Option WordCause
 same_fault before operand.First value = repeated before operand.Second value
@@ -67,14 +67,14 @@ number_fault _ value = Some cause.Value
 -- the fault of what an operand is given
 abbrev pub given_fault : Command → List (List ℕ) → Operand → List ℕ → Option WordCause
 given_fault command before operand value =
-    option_or (value_fault command (table operand).form value) (same_fault before operand value)
+    option_or (value_fault command (line_of operand).form value) (same_fault before operand value)
 
 -- The fault of a word, beside this command and what the words choose, and behind the operands `before`: the first of these
 -- that holds of it.
 module _ (command : Command) (choice : Choice) (before : List (List ℕ)) (word : List ℕ) where
   abbrev pub named_fault : Operand → Option WordCause
   named_fault operand =
-      if not (is_taken command choice (table operand).taker) then Some cause.NotHere else
+      if not (is_taken command choice (line_of operand).taker) then Some cause.NotHere else
       (if list_any (is_named (name_in word)) before then Some cause.Twice
       else given_fault command before operand (value_in word))
 

@@ -7,7 +7,7 @@ use Rattle.scr_words.specs.declared.faults.TestError.{TestError}
 use Rattle.scr_words.specs.declared.faults.TestError.TheVariants as test
 use Rattle.scr_words.specs.declared.reading.WordsError.{WordsError}
 use Rattle.scr_words.specs.declared.reading.WordsError.TheVariants as words
-use Rattle.scr_words.specs.Operands.{table}
+use Rattle.scr_words.specs.Operands.{line_of}
 use Rattle.scr_words.specs.WordParts.{given}
 use Rattle.scr_words.specs.WordFaults.{value_fault, lacks_operand, IsFirstFault, AreRefused}
 
@@ -29,7 +29,7 @@ AreRefusedBy given (words.OutOfMemory want) = Unit {0}
 -- each value that the words give beside a command passes the test of its form
 abbrev pub HaveFaultlessValues : Command → List (List ℕ) → Type 0
 HaveFaultlessValues command operands = (operand : Operand) (value : List ℕ)
-    → given (table operand).name operands ≡ Some value → value_fault command (table operand).form value ≡ None
+    → given (line_of operand).name operands ≡ Some value → value_fault command (line_of operand).form value ≡ None
 
 -- what operands choose, or nothing where a required one is absent
 abbrev pub Chooses : {A : Type 0} → Command → List (List ℕ) → (A → Type 0) → Option A → Type 0

@@ -1,12 +1,12 @@
 ghost use Rattle.std.specs.Prelude.{◌≡◌, ◌≤◌, IsTrue, List, Some, None, IfOk};
 ghost use Rattle.scr_base.specs.Numbers.{number_of};
 ghost use Rattle.scr_plan.specs.Limits.{most_cores, longest_history};
-ghost use Rattle.scr_plan.specs.Spelling.{Spells};
+ghost use Rattle.scr_plan.specs.Spelling.{SpellsRanges};
 ghost use Rattle.scr_plan.specs.DelaySpelling.{SpellsDelays};
 ghost use Rattle.scr_plan.specs.declared.drops.DropRange.{DropRange};
 ghost use Rattle.scr_plan.specs.declared.delays.FrameDelay.{FrameDelay};
 ghost use Rattle.scr_program.specs.declared.table.TheConstants.{MOST_FLOWS};
-ghost use Rattle.scr_words.specs.Operands.{table, is_numeric, IsWithin};
+ghost use Rattle.scr_words.specs.Operands.{line_of, is_numeric, IsWithin};
 ghost use Rattle.scr_words.specs.WordParts.{program_in, chosen};
 ghost use Rattle.scr_words.specs.WordFaults.{value_fault, number_fault};
 ghost use Rattle.scr_words.specs.WordTests.{HaveFaultlessValues, Chooses};
@@ -179,8 +179,8 @@ fn link(alloc: Global, tested: Tested<'_>) -> Result<Link, OutOfMemory>
 
 // The ranges that a tested text spells.
 fn ranges(alloc: Global, text: &[u8]) -> Result<Drops, OutOfMemory>
-    requires { (ranges : List DropRange) × Spells text.now ranges }
-    ensures { IfOk result (Spells text.now) }
+    requires { (ranges : List DropRange) × SpellsRanges text.now ranges }
+    ensures { IfOk result (SpellsRanges text.now) }
 {
     match Drops::read(alloc, text) {
         Ok(drops) => Ok(drops),
@@ -210,21 +210,21 @@ fn value<'a>(operand: Operand, tested: Tested<'a>) -> &'a [u8]
 }
 
 fn number(operand: Operand, tested: Tested<'_>) -> u64
-    requires numeric { IsTrue (is_numeric (table operand).form) }
-    requires default { value_fault tested.command (table operand).form (table operand).default ≡ None }
+    requires numeric { IsTrue (is_numeric (line_of operand).form) }
+    requires default { value_fault tested.command (line_of operand).form (line_of operand).default ≡ None }
     requires values { HaveFaultlessValues tested.command tested.operands.now }
     ensures number { result ≡ number_for operand tested.entry.operands.now }
-    ensures within { IsWithin (table operand).form result }
+    ensures within { IsWithin (line_of operand).form result }
 {
     spelled(operand, value(operand, tested))
 }
 
 // The number that a tested value spells.
 fn spelled(operand: Operand, value: &[u8]) -> u64
-    requires numeric { IsTrue (is_numeric (table operand).form) }
-    requires faultless { number_fault (table operand).form value.now ≡ None }
+    requires numeric { IsTrue (is_numeric (line_of operand).form) }
+    requires faultless { number_fault (line_of operand).form value.now ≡ None }
     ensures number { result ≡ number_of value.now }
-    ensures within { IsWithin (table operand).form result }
+    ensures within { IsWithin (line_of operand).form result }
 {
     let Form::Number { least, greatest } = operand.line().form else {
         unreachable!()

@@ -1,5 +1,5 @@
 ghost use Rattle.std.specs.Prelude.{◌≡◌};
-ghost use Rattle.scr_words.specs.Operands.{command_name, command_named, knows, sprays, runs_cores, operand_named, table, taker_of, is_taken};
+ghost use Rattle.scr_words.specs.Operands.{command_name, command_named, knows, sprays, runs_cores, operand_named, line_of, taker_of, is_taken};
 
 use crate::program_name::{Choice, OneName, ProgramName};
 use crate::settings::Command;
@@ -136,10 +136,10 @@ impl Operand {
 
     /// The operand's line in the table.
     pub(crate) fn line(self) -> TableLine
-        ensures name { result.name.now ≡ (table self).name }
-        ensures taker { result.taker ≡ (table self).taker }
-        ensures form { result.form ≡ (table self).form }
-        ensures default { result.default.now ≡ (table self).default }
+        ensures name { result.name.now ≡ (line_of self).name }
+        ensures taker { result.taker ≡ (line_of self).taker }
+        ensures form { result.form ≡ (line_of self).form }
+        ensures default { result.default.now ≡ (line_of self).default }
     {
         let ddos = taker_of(OneName::Ddos);
         let heavy = taker_of(OneName::Heavy);

@@ -7,7 +7,7 @@ use Rattle.std.proofs.lemmas.Result.{err_from_is_err_and}
 use Rattle.std.proofs.lemmas.Bool.Decides.{nat_tests}
 use Rattle.scr_plan.specs.declared.drops.DropRange.{DropRange}
 use Rattle.scr_plan.specs.Spelling.{pieces_of, piece_read, place_of}
-use Rattle.scr_plan.proofs.Spelled.{ReadsTo, ReadsTo-more, IsRefused-here, place_of-more, place_of-fits, Spells-all}
+use Rattle.scr_plan.proofs.Spelled.{ReadsTo, ReadsTo-more, IsRefused-here, place_of-more, place_of-fits, SpellsRanges-all}
 use Rattle.scr_plan.proofs.reading.read_ranges.Goals as goal
 
 pub returns-in_err-push-in-Ok : goal.returns-in_err-push-in-Ok
@@ -71,4 +71,4 @@ returns c =
     (YieldsList-from_slice_split {s = c.into_iter-piece-iterator.result} _ (λ byte. eqb byte 44) c.args.text.now (search rules)
     (search rules) (search rules) (λ x b q k. search (rules, tests)))
     c.loop-piece.yielded _ c.loop-piece.yielded_by _ c.next.new.self c.in-None.is c.next.ensures.steps in
-    Spells-all c.args.text.now c.loop-piece.ranges.items some (c.loop-piece.invariant.count ∙ end.1) c.loop-piece.invariant.each
+    SpellsRanges-all c.args.text.now c.loop-piece.ranges.items some (c.loop-piece.invariant.count ∙ end.1) c.loop-piece.invariant.each

@@ -3,7 +3,7 @@ use Rattle.std.proofs.lemmas.Bool.{MatchBool-at_true, both_ways}
 use Rattle.scr_plan.specs.declared.given.Given.{Given}
 use Rattle.scr_plan.specs.declared.counting.CoreCounts.{CoreCounts}
 use Rattle.scr_report.specs.Outcome.{Outcome, report_text}
-use Rattle.scr_report.specs.Grammar.{AreCounts, Spells}
+use Rattle.scr_report.specs.Grammar.{AreCounts, SpellsReport}
 use Rattle.scr_report.specs.ReadBack.{ArePlain, Grow}
 use Rattle.scr_report.proofs.ReadBack.{spells-written, follow-on}
 use Rattle.scr_report.proofs.laws.is_plain.Goals as goal
@@ -28,7 +28,7 @@ returns-then-grow-clause-read_back c = λ is.
           let named : M (length names) = subst M c.len-count.ensures.count (subst N c.deref-3.ensures.value (MatchBool-at_true (N c.deref-3.result.now) _ w.if-are_named.true c.are_named.ensures)) in
           let C : List CoreCounts → Type 0 = λ t. All AreCounts t in
           let T : List ℕ → Type 0 = λ t. All (λ (total : ℕ). total < 2 ^ 64) t in
-          let P : Outcome → Type 0 = λ o. Spells names (report_text names o true) o in
+          let P : Outcome → Type 0 = λ o. SpellsReport names (report_text names o true) o in
           subst P c.report.view_is (spells-written names seen plain (record {
             verdicts = follow-on names 0 r.verdicts.items plain grow named fit;
             frames = c.tell_bounds.ensures.frames;

@@ -3,7 +3,7 @@ use Rattle.std.specs.List.{list_any}
 use Rattle.std.proofs.lemmas.Iterator.{YieldsList-from_slice}
 use Rattle.std.proofs.lemmas.Iterator.Search.{any_from_yields_List}
 use Rattle.scr_words.specs.declared.word_fault.WordCause.{WordCause}
-use Rattle.scr_words.specs.Operands.{table, operand_named, is_taken}
+use Rattle.scr_words.specs.Operands.{line_of, operand_named, is_taken}
 use Rattle.scr_words.specs.WordParts.{name_in, value_in, is_named}
 use Rattle.scr_words.specs.WordFaults.{given_fault}
 use Rattle.scr_words.specs.WordTests.{Tells}
@@ -29,7 +29,7 @@ pub returns-then-any : goal.returns-then-any
 returns-then-any c =
     let known : operand_named (name_in c.args.word.now) ≡ Some c.in-Some-named.operand =
     ap operand_named (sym c.in-Some.ensures.front_is) ∙ sym c.named.ensures ∙ c.in-Some-named.is in
-    let here : is_taken c.args.command c.args.choice (table c.in-Some-named.operand).taker ≡ true =
+    let here : is_taken c.args.command c.args.choice (line_of c.in-Some-named.operand).taker ≡ true =
     ap (is_taken c.args.command c.args.choice) (sym c.line.ensures.taker) ∙ sym c.is_met.ensures ∙ c.if-not-is_met.false in
     let again : c.any.result ≡ list_any (is_named c.in-Some.name.now) c.args.before.now =
     any_from_yields_List (is_named c.in-Some.name.now) _ _ c.any.result c.any.ensures.ran
@@ -41,7 +41,7 @@ pub returns : goal.returns
 returns c =
     let known : operand_named (name_in c.args.word.now) ≡ Some c.in-Some-named.operand =
     ap operand_named (sym c.in-Some.ensures.front_is) ∙ sym c.named.ensures ∙ c.in-Some-named.is in
-    let here : is_taken c.args.command c.args.choice (table c.in-Some-named.operand).taker ≡ true =
+    let here : is_taken c.args.command c.args.choice (line_of c.in-Some-named.operand).taker ≡ true =
     ap (is_taken c.args.command c.args.choice) (sym c.line.ensures.taker) ∙ sym c.is_met.ensures ∙ c.if-not-is_met.false in
     let again : c.any.result ≡ list_any (is_named c.in-Some.name.now) c.args.before.now =
     any_from_yields_List (is_named c.in-Some.name.now) _ _ c.any.result c.any.ensures.ran
