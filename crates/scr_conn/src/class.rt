@@ -29,6 +29,7 @@ pub(crate) enum Class {
 }
 
 /// The class of these flags.
+#[inline(always)]
 pub(crate) fn class_of(flags: u8) -> Class
     ensures { result ≡ class_of flags }
 {
@@ -49,6 +50,7 @@ pub(crate) fn class_of(flags: u8) -> Class
     }
 }
 
+#[inline(always)]
 fn has_flag(flags: u8, flag: u8) -> bool
     ensures { result ≡ has_flag flags flag }
 {

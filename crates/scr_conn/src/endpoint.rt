@@ -47,6 +47,7 @@ impl Hash for Connection {
     }
 }
 
+#[inline(always)]
 fn ports_joined(low: u16, high: u16) -> u64
     ensures { result ≡ low * 2 ^ 16 + high }
 {
@@ -74,20 +75,19 @@ pub(crate) fn sender_of(fields: &Fields) -> Side
 pub(crate) fn connection_of(fields: &Fields) -> Connection
     ensures { result ≡ connection_of fields.now }
 {
-    let source = source_of(fields);
-    let destination = destination_of(fields);
     match sender_of(fields) {
         Side::Low => Connection {
-            low: source,
-            high: destination,
+            low: source_of(fields),
+            high: destination_of(fields),
         },
         Side::High => Connection {
-            low: destination,
-            high: source,
+            low: destination_of(fields),
+            high: source_of(fields),
         },
     }
 }
 
+#[inline(always)]
 fn source_of(fields: &Fields) -> Endpoint
     ensures { result ≡ source_of fields.now }
 {
@@ -97,6 +97,7 @@ fn source_of(fields: &Fields) -> Endpoint
     }
 }
 
+#[inline(always)]
 fn destination_of(fields: &Fields) -> Endpoint
     ensures { result ≡ destination_of fields.now }
 {

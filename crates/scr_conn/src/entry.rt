@@ -40,6 +40,7 @@ pub(crate) fn next_entry(idle: u64, known: Option<Entry>, fields: &Fields) -> Op
 }
 
 // An entry that was idle for too long counts as absent.
+#[inline(always)]
 fn live(idle: u64, time: u64, known: Option<Entry>) -> Option<Entry>
     ensures { result ≡ live idle time known }
 {
@@ -49,6 +50,7 @@ fn live(idle: u64, time: u64, known: Option<Entry>) -> Option<Entry>
     }
 }
 
+#[inline(always)]
 fn direction_of(side: Side, sender: Side) -> Direction
     ensures { result ≡ direction_of side sender }
 {
@@ -59,6 +61,7 @@ fn direction_of(side: Side, sender: Side) -> Direction
 }
 
 // The cell of the table for an entry, or none, and a packet of this sender and these flags.
+#[inline(always)]
 fn cell_for(old: Option<Entry>, sender: Side, flags: u8) -> Cell
     ensures { result ≡ cell_for old sender flags }
 {
@@ -70,6 +73,7 @@ fn cell_for(old: Option<Entry>, sender: Side, flags: u8) -> Cell
 }
 
 // The entry that this cell makes of an entry, or of none.
+#[inline(always)]
 fn changed(cell: Cell, old: Option<Entry>, sender: Side, time: u64) -> Option<Entry>
     ensures { result ≡ changed cell old sender time }
 {

@@ -107,6 +107,7 @@ impl Keyed for Conn {
 }
 
 // The entry that a segment leaves, if it is valid, and its verdict.
+#[inline(always)]
 fn answered(entry: Option<Entry>) -> (Option<Entry>, Verdict)
     ensures { result ≡ answered entry }
 {
@@ -116,6 +117,7 @@ fn answered(entry: Option<Entry>) -> (Option<Entry>, Verdict)
     }
 }
 
+#[inline(always)]
 fn verdict_of(state: State) -> Verdict
     ensures { result ≡ verdict_of state }
 {

@@ -23,6 +23,7 @@ pub(crate) enum Cell {
 }
 
 /// The cell of a state, or of none, for a packet of this direction and class.
+#[inline(always)]
 pub(crate) fn cell_of(state: Option<State>, direction: Direction, class: Class) -> Cell
     ensures { result ≡ transition state direction class }
 {

@@ -1,5 +1,5 @@
 -- The list of flows where a key has a new entry.
-use Rattle.std.proofs.Common.{◌≡◌, Bool, true, false, List, [], ◌∷◌, take, slice_get, ℕ, Option, Some, None, refl, sym, ap, ◌∙◌, subst}
+use Rattle.std.proofs.Common.{◌≡◌, Bool, true, false, List, [], ◌∷◌, take, slice_get, ℕ, Option, Some, None, refl, sym, ap, ◌∙◌}
 use Rattle.std.specs.Map.{lookup, remove_entry}
 use Rattle.std.specs.Option.{MatchOption}
 use Rattle.scr_flows.specs.Flows.{Known, list_of, IsAbsent, IsAt}

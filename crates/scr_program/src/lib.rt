@@ -28,6 +28,7 @@ mod key;
 mod keyed;
 mod kinds;
 mod program;
+mod ready;
 mod setting;
 mod table;
 #[cfg(test)]

@@ -5,6 +5,7 @@ ghost use Rattle.scr_flows.specs.Flows.{list_of, IsAbsent, IsAt};
 ghost use Rattle.scr_program.specs.FlowList.{set_key, entered_list};
 
 use crate::key::FlowKey;
+use crate::ready::Ready;
 use scr_base::OutOfMemory;
 use scr_flows::Flows;
 use std::alloc::Global;
@@ -22,21 +23,23 @@ pub struct FlowTable<K: FlowKey, V: Copy + Drop> {
     flows: Flows<K, V>,
     // Where a key is looked for first: the place of the ready key, or that of the newest.
     likely: usize,
-    ready: Option<K>,
+    // A ready key that is a flow's isn't copied: its place tells it.
+    ready: Ready,
+    apart: Option<K>,
 }
 
 impl<K: FlowKey, V: Copy + Drop> Model for FlowTable<K, V> {
     ghost use Rattle.scr_flows.specs.Flows.{list_of};
     ghost use Rattle.scr_program.specs.FlowTable.{Table, table_code};
-    ghost use Rattle.scr_program.specs.Kept.{IsReady};
+    ghost use Rattle.scr_program.specs.Kept.{IsReady, ready_key};
 
     ghost Value = { Table K V };
 
     ghost coded = { table_code K.code V.code };
 
-    ghost view = { λ t. record { flows = t.flows.most; list = list_of t.flows; ready = t.ready } };
+    ghost view = { λ t. record { flows = t.flows.most; list = list_of t.flows; ready = ready_key t.flows t.likely t.apart t.ready } };
 
-    ghost invariant = { λ t. IsReady K.eq t.flows t.ready };
+    ghost invariant = { λ t. IsReady K.eq t.flows (ready_key t.flows t.likely t.apart t.ready) };
 }
 
 impl<K: FlowKey, V: Copy + Drop> FlowTable<K, V> {
@@ -49,7 +52,8 @@ impl<K: FlowKey, V: Copy + Drop> FlowTable<K, V> {
         Ok(FlowTable {
             flows: Flows::make(alloc, flows)?,
             likely: 0,
-            ready: None,
+            ready: Ready::Nothing,
+            apart: None,
         })
     }
 
@@ -106,7 +110,7 @@ impl<K: FlowKey, V: Copy + Drop> FlowTable<K, V> {
         ensures known_succeeds { IsSome (lookup (K.eq key.now) self.old.list) → IsOk result }
         ensures ready_succeeds { self.old.ready ≡ Some key.now → IsOk result }
     {
-        self.ready = None;
+        self.ready = Ready::Nothing;
         let place = self.flows.find(self.likely, key);
         let (entry, told) = next(entry_at(&self.flows, place));
         self.likely = enter(&mut self.flows, place, key, entry)?;
@@ -137,7 +141,7 @@ impl<K: FlowKey, V: Copy + Drop> FlowTable<K, V> {
         let Some(entry) = after else {
             return Ok(told);
         };
-        self.ready = None;
+        self.ready = Ready::Nothing;
         self.likely = enter(&mut self.flows, place, key, entry)?;
         Ok(told)
     }
@@ -158,7 +162,7 @@ impl<K: FlowKey, V: Copy + Drop> FlowTable<K, V> {
             return self.prepare_new(key);
         };
         self.likely = place;
-        self.ready = Some(key);
+        self.ready = Ready::Likely;
         Ok(())
     }
 
@@ -171,9 +175,11 @@ impl<K: FlowKey, V: Copy + Drop> FlowTable<K, V> {
         ensures err { OnErr result (self.new ≡ record self.old { ready = None }) }
         ensures ready_succeeds { self.old.ready ≡ Some key → IsOk result }
     {
-        let room = self.flows.reserve();
-        self.ready = if room.is_ok() { Some(key) } else { None };
-        room
+        self.ready = Ready::Nothing;
+        self.flows.reserve()?;
+        self.apart = Some(key);
+        self.ready = Ready::Apart;
+        Ok(())
     }
 }
 
