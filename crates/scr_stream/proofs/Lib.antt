@@ -18,5 +18,6 @@ mod RowsWritten
 mod FramesWritten
 mod EntryStands
 pub mod OneReading
+pub mod SomeReading
 pub mod WrittenRead
 mod Reach

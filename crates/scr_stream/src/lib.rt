@@ -12,8 +12,8 @@
 //! **What is proved.** A call that writes and succeeds has appended just the stream of its plan; one that fails, a front of
 //! it and not all. An error of the sink is counted there, and nothing else is; where there was no memory for the call
 //! itself, the sink is as it was. A call that reads answers the reading of all the bytes; a fault of the source is counted
-//! where it is answered. Bytes have one reading at most ([`one_reading`]), and what is written of a plan reads as a plan of
-//! the same run ([`written_is_read`]).
+//! where it is answered. Any bytes have a reading ([`some_reading`]), and only one ([`one_reading`]); and what is written
+//! of a plan reads as a plan of the same run ([`written_is_read`]).
 //!
 //! **What is only tested.** That a stream written down by hand is the one that is written, over a link that loses, repeats
 //! and delays too, and the one that is read; that it is refused in each of its places; and that there is a stream, or a
@@ -40,6 +40,6 @@ mod write;
 
 pub use error::StreamError;
 pub use header::Shape;
-pub use laws::{one_reading, written_is_read};
+pub use laws::{one_reading, some_reading, written_is_read};
 pub use read::read_stream;
 pub use write::write_stream;

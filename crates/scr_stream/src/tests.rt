@@ -1,4 +1,4 @@
-use crate::{StreamError, one_reading, read_stream, write_stream, written_is_read};
+use crate::{StreamError, one_reading, read_stream, some_reading, write_stream, written_is_read};
 use scr_base::{MemSink, MemSource, OutOfMemory, Row};
 use scr_plan::{Delays, Drops, Link, RunPlan};
 use scr_wire::WireError;
@@ -335,5 +335,6 @@ fn reads_what_was_written(rt: HostRuntime) -> Result<(), Fail> {
 #[test]
 fn laws_are_called(_rt: HostRuntime) {
     one_reading();
+    some_reading();
     written_is_read();
 }
