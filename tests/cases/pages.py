@@ -76,6 +76,13 @@ def clauses(_program):
                 yield f"{path}:{line}: ({inside})", f"no clause: {' '.join(wrong)}" if wrong else None
 
 
+def excerpts(_program):
+    """Each piece of Rattle on the page about embedding stands in the crate of its callers."""
+    code = "".join("".join(map(text_of, files_in("src", ".rt"))).split())
+    for number, piece in enumerate(re.findall(r"```rust\n(.*?)```", text_of("docs/EMBEDDING.md"), re.DOTALL), 1):
+        yield f"piece {number} of docs/EMBEDDING.md", None if "".join(piece.split()) in code else f"in no source: {piece}"
+
+
 def tables(_program):
     """Each file in a table of files is there."""
     folder = None
