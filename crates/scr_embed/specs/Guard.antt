@@ -4,7 +4,7 @@ use Rattle.scr_base.specs.declared.row.Verdict.{Verdict}
 use Rattle.scr_program.specs.declared.fields.Fields.{Fields}
 use Rattle.scr_program.specs.Rows.{no_fields}
 use Rattle.scr_program.specs.Verdicts.{PASS, DROP}
-use Rattle.scr_embed.specs.declared.guard.PortSettings.{PortSettings}
+use Rattle.scr_embed.specs.declared.settings.PortSettings.{PortSettings}
 
 -- the fields that the guard keeps of TCP and UDP: the rest is 0
 abbrev pub fields_kept : Fields → Fields

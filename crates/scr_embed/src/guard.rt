@@ -1,29 +1,16 @@
-ghost use Rattle.std.specs.Prelude.{◌≡◌, ◌≤◌, ◌==◌, nat_lt, Some, None};
+ghost use Rattle.std.specs.Prelude.{◌==◌, nat_lt, Some, None};
 ghost use Rattle.std.proofs.Common.{lit<};
 ghost use Rattle.scr_program.proofs.Choices.{chosen-named, outcome-named};
 ghost use Rattle.scr_program.specs.Keys.{source_of};
 ghost use Rattle.scr_program.specs.Kinds.{has_ports};
 ghost use Rattle.scr_program.specs.Verdicts.{PASS, DROP, OTHER, pass_drop_other};
-ghost use Rattle.scr_program.specs.declared.table.TheConstants.{MOST_FLOWS};
 ghost use Rattle.scr_embed.specs.Guard.{count_with, fields_kept, outcome};
 
+use crate::settings::PortSettings;
 use scr_base::{OutOfMemory, Verdict};
 use scr_program::{
     Address, DROP, Fields, FlowTable, Keyed, OTHER, PASS, PASS_DROP_OTHER, has_ports,
 };
-
-/// What a user of the guard may choose.
-#[derive(Clone, Copy, Debug, PartialEq, Eq)]
-pub struct PortSettings {
-    /// The port that is guarded.
-    pub port: u16,
-    /// How many packets of a source to the port may pass.
-    pub most: u64,
-    /// How many sources are counted at most, from 1 to 65,536.
-    pub flows: u32,
-    ghost some: { 1 ≤ flows },
-    ghost few: { flows ≤ MOST_FLOWS },
-}
 
 /// Counts the packets of each source to one port, and drops those past a number. Packets to other ports pass, and change
 /// nothing.
@@ -56,10 +43,12 @@ impl Keyed for PortGuard {
 
     ghost other_is_named = { lit< tt };
 
+    #[inline(always)]
     fn looks_at(kind: u16) -> bool {
         has_ports(kind)
     }
 
+    #[inline(always)]
     fn kept(fields: &Fields) -> Fields {
         Fields {
             source: fields.source,
@@ -73,10 +62,12 @@ impl Keyed for PortGuard {
         }
     }
 
+    #[inline(always)]
     fn key(fields: &Fields) -> Address {
         fields.source
     }
 
+    #[inline(always)]
     fn enter(
         settings: &PortSettings,
         table: &mut FlowTable<Address, u64>,
@@ -93,6 +84,7 @@ impl Keyed for PortGuard {
         Ok(if settings.most < count { DROP } else { PASS })
     }
 
+    #[inline(always)]
     fn passed_over() -> Verdict {
         OTHER
     }

@@ -20,11 +20,13 @@
 mod guard;
 mod one_frame;
 mod reports;
+mod settings;
 #[cfg(test)]
 mod tests;
 mod words;
 
-pub use guard::{PortGuard, PortSettings};
+pub use guard::PortGuard;
 pub use one_frame::take_frame;
 pub use reports::report_of;
+pub use settings::PortSettings;
 pub use words::{Ended, run_words};
