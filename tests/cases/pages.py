@@ -5,7 +5,8 @@ import shutil
 import subprocess
 
 TOP = os.path.dirname(os.path.dirname(os.path.dirname(os.path.realpath(__file__))))
-PAGES = ["README.md", "docs/GUIDE.md", "docs/ARCHITECTURE.md", "docs/DEFINITIONS.md", "docs/PROOFS.md", "docs/DECISIONS.md"]
+PAGES = ["README.md", "docs/GUIDE.md", "docs/ARCHITECTURE.md", "docs/DEFINITIONS.md", "docs/PROOFS.md", "docs/DECISIONS.md",
+         "docs/EMBEDDING.md"]
 FENCE = "```"
 
 
@@ -69,11 +70,21 @@ def clauses(_program):
     names = set()
     for path in files_in("src", ".rt"):
         names |= set(re.findall(r"\b(?:ensures|requires|ghost) (\w+)", text_of(path)))
-    for path in ("README.md", "docs/PROOFS.md"):
+    for path in ("README.md", "docs/PROOFS.md", "docs/EMBEDDING.md"):
         for line, text in enumerate(text_of(path).splitlines(), 1):
             for inside in re.findall(r"`[\w:]+`(?:'s `\w+`)? \(((?:`\w+`(?:, | and )?)+)\)", text):
                 wrong = [it for it in re.findall(r"`(\w+)`", inside) if it not in names]
                 yield f"{path}:{line}: ({inside})", f"no clause: {' '.join(wrong)}" if wrong else None
+
+
+def excerpts(_program):
+    """Each block of the page on embedding stands in the file that is named last before it, but for the space between words."""
+    pieces = re.split(r"^```\w*\n(.*?)^```$", text_of("docs/EMBEDDING.md"), flags=re.DOTALL | re.MULTILINE)
+    path, code = None, ""
+    for told, block in zip(pieces[::2], pieces[1::2]):
+        for path in re.findall(r"`([\w/]+\.\w+)`", told)[-1:]:
+            code = "".join(text_of(path).split()) if os.path.exists(f"{TOP}/{path}") else ""
+        yield f"docs/EMBEDDING.md: {block.partition(chr(10))[0]}", None if "".join(block.split()) in code else f"isn't in {path}"
 
 
 def tables(_program):

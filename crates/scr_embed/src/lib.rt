@@ -1,0 +1,32 @@
+//! How another crate calls the program and its parts, and how a program of one's own is written. docs/EMBEDDING.md walks
+//! through it.
+//!
+//! **What it does.** [`run_words`] gives [`scr_main`](scr_run::scr_main) words and a capture in memory. [`report_of`] has the
+//! report of any program over a capture in memory, without words or cores. [`take_frame`] lets a program give the verdict of
+//! one frame, for a caller that has its own source of frames. [`PortGuard`] is a program of one's own.
+//!
+//! **What a contract sees.** Captures and reports as lists of bytes. The guard as the packets to its port, counted for each
+//! source.
+//!
+//! **What is proved.** A report is that of the program's rules over the records of the capture, and it comes wherever the
+//! capture is valid and memory suffices. A verdict is that of the rows before it. The guard's rows and verdicts are those of
+//! specs/Guard.antt.
+//!
+//! **What is only tested.** That calls succeed where there is memory.
+//!
+//! **Limits.** Those of the crates below. Nothing stands on this crate.
+#![tactic(auto)]
+
+mod guard;
+mod one_frame;
+mod reports;
+mod settings;
+#[cfg(test)]
+mod tests;
+mod words;
+
+pub use guard::PortGuard;
+pub use one_frame::take_frame;
+pub use reports::report_of;
+pub use settings::PortSettings;
+pub use words::{Ended, run_words};
