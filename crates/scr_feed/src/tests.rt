@@ -46,24 +46,92 @@ fn is_frame(packet: &Packet, n: u8) -> bool {
     packet.bytes() == frame_message(n).as_slice()
 }
 
-// Whether the next packet of the lane is this frame, where there is a packet.
-fn takes<R: Wait>(rt: &R, end: &mut ReceiveEnd, n: u8) -> bool {
-    end.has_item() && is_frame(&end.pop(rt), n)
+// What is done with a feed and the lane of its one core, and what must come of it.
+enum Act {
+    // The feed's next step is this.
+    Feeds(Step),
+    // The lane has a packet, and it is this frame.
+    Takes(u8),
+    // The lane has no packet.
+    FindsNone,
 }
 
-// What the next steps of a feed are.
-fn steps<R: Wait, const N: usize>(
+// Whether this comes of it.
+fn does<R: Wait>(
     rt: &R,
     feed: &mut Feed<'_>,
-    steps: [Step; N],
+    end: &mut ReceiveEnd,
+    act: &Act,
 ) -> Result<bool, OutOfMemory> {
-    for step in steps {
-        if feed.step(rt)? != step {
+    match act {
+        Act::Feeds(step) => Ok(feed.step(rt)? == *step),
+        Act::Takes(n) => Ok(end.has_item() && is_frame(&end.pop(rt), *n)),
+        Act::FindsNone => Ok(!end.has_item()),
+    }
+}
+
+// Whether this comes of it so often.
+fn does_often<R: Wait>(
+    rt: &R,
+    feed: &mut Feed<'_>,
+    end: &mut ReceiveEnd,
+    times: u32,
+    act: &Act,
+) -> Result<bool, OutOfMemory> {
+    for _ in 0..times {
+        if !does(rt, feed, end, act)? {
             return Ok(false);
         }
     }
     Ok(true)
 }
+
+// The first of these acts that goes otherwise.
+fn goes_otherwise<R: Wait>(
+    rt: &R,
+    feed: &mut Feed<'_>,
+    end: &mut ReceiveEnd,
+    acts: &[(u32, Act)],
+) -> Result<Option<usize>, OutOfMemory> {
+    for (place, (times, act)) in acts.iter().enumerate() {
+        if !does_often(rt, feed, end, *times, act)? {
+            return Ok(Some(place));
+        }
+    }
+    Ok(None)
+}
+
+const TAKEN: Act = Act::Feeds(Step::Taken);
+
+const SENT: Act = Act::Feeds(Step::Sent { core: 0 });
+
+const FULL: Act = Act::Feeds(Step::Full { core: 0 });
+
+const DONE: Act = Act::Feeds(Step::Done);
+
+// How four frames go through a lane of two packets: how often, and what.
+const FOUR_FRAMES: [(u32, Act); 18] = [
+    (1, TAKEN),
+    (1, SENT),
+    (1, TAKEN),
+    (1, SENT),
+    (1, TAKEN),
+    (2, FULL),
+    (1, Act::Takes(1)),
+    (1, Act::Takes(2)),
+    (1, Act::FindsNone),
+    (1, SENT),
+    (1, TAKEN),
+    (1, SENT),
+    (1, Act::Takes(3)),
+    (1, Act::Takes(4)),
+    // Nothing comes late.
+    (1_000, TAKEN),
+    // The end.
+    (1, TAKEN),
+    (1, SENT),
+    (2, DONE),
+];
 
 #[test]
 fn a_full_lane_and_an_empty_one(rt: HostRuntime) -> Result<(), Fail> {
@@ -71,17 +139,8 @@ fn a_full_lane_and_an_empty_one(rt: HostRuntime) -> Result<(), Fail> {
     let plan = plan_of(rt.alloc(), 4, 1, link)?;
     let (mut feed, mut ends) = Feed::make(rt.alloc(), &plan, 2)?;
     let mut end = ends.pop().ok_or("an end")?;
-    let (sent, full) = (Step::Sent { core: 0 }, Step::Full { core: 0 });
-    assert!(rt; steps(&rt, &mut feed, [Step::Taken, sent, Step::Taken, sent])?);
-    assert!(rt; steps(&rt, &mut feed, [Step::Taken, full, full])?);
-    assert!(rt; takes(&rt, &mut end, 1) && takes(&rt, &mut end, 2));
-    assert!(rt; !end.has_item());
-    assert!(rt; steps(&rt, &mut feed, [sent, Step::Taken, sent])?);
-    assert!(rt; takes(&rt, &mut end, 3) && takes(&rt, &mut end, 4));
-    for _ in 0..1_000 {
-        assert_eq!(rt; feed.step(&rt)?, Step::Taken, "nothing comes late");
-    }
-    assert!(rt; steps(&rt, &mut feed, [Step::Taken, sent, Step::Done, Step::Done])?);
+    let otherwise = goes_otherwise(&rt, &mut feed, &mut end, &FOUR_FRAMES)?;
+    assert_eq!(rt; otherwise, None);
     Ok(())
 }
 
