@@ -9,8 +9,8 @@
 //! source.
 //!
 //! **What is proved.** Words give the text that they ask for, and a program's report is that of its rules over the records
-//! of the capture. Where memory suffices each comes, or the status of what is wrong. A verdict is the one after the rows
-//! before it. The guard's rows and verdicts are those of specs/Guard.antt.
+//! of the capture; or the status of what is wrong with words or capture comes, or memory ran out. A verdict is the one
+//! after the rows before it. The guard's rows and verdicts are those of specs/Guard.antt.
 //!
 //! **What is only tested.** That calls succeed where there is memory, and the line on the error stream.
 //!
