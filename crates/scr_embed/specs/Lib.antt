@@ -1,2 +1,1 @@
 pub mod Guard
-pub mod Reports

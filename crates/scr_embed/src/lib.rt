@@ -8,11 +8,11 @@
 //! **What a contract sees.** Captures and reports as lists of bytes. The guard as the packets to its port, counted for each
 //! source.
 //!
-//! **What is proved.** A report is that of the program's rules over the records of the capture, and it comes wherever the
-//! capture is valid and memory suffices. A verdict is that of the rows before it. The guard's rows and verdicts are those of
-//! specs/Guard.antt.
+//! **What is proved.** Words give the text that they ask for, and a program's report is that of its rules over the records
+//! of the capture; or the status of what is wrong with words or capture comes, or memory ran out. A verdict is the one
+//! after the rows before it. The guard's rows and verdicts are those of specs/Guard.antt.
 //!
-//! **What is only tested.** That calls succeed where there is memory.
+//! **What is only tested.** That calls succeed where there is memory, and the line on the error stream.
 //!
 //! **Limits.** Those of the crates below. Nothing stands on this crate.
 #![tactic(auto)]
