@@ -3,16 +3,16 @@ ghost use Rattle.std.specs.Prelude.{◌≡◌, ◌≢◌, ◌≤◌, ◌<◌, �
 ghost use Rattle.scr_plan.specs.FinalEntry.{final_entry};
 ghost use Rattle.scr_log.specs.Passes.{IsNext, IsCurrent};
 
-use crate::measure::{Cores, Shared};
+use crate::measure::Shared;
 use crate::rows::plan_of;
 use crate::stop::Stop;
-use scr_base::Row;
+use scr_base::{OutOfMemory, Row};
 use scr_log::{CorePass, FreePass, Logs, Look, Room};
 use scr_plan::RunPlan;
 use std::alloc::Global;
 use std::sync::Wait;
 use std::thread;
-use std::thread::Threads;
+use std::thread::{JoinHandle, Scope, Threads};
 
 const SLOTS: u32 = 1_024;
 
@@ -22,103 +22,130 @@ pub fn rows_found<R: Threads + Wait + Sync>(
     alloc: Global,
     shared: Shared,
 ) -> Result<u64, Stop> {
-    let found = match shared.cores {
-        Cores::Two => {
-            let plan = plan_of(alloc, 2, shared.rows)?;
-            let (logs, mut first) = Logs::make(alloc, &plan, SLOTS)?;
-            let second = first.split(&logs);
-            by_two(rt, &logs, &plan, first, second)
-        }
-        Cores::Four => {
-            let plan = plan_of(alloc, 4, shared.rows)?;
-            let (logs, first) = Logs::make(alloc, &plan, SLOTS)?;
-            by_four(rt, &logs, &plan, first)
-        }
-    };
-    found.ok_or(Stop::NoThread)
+    let plan = plan_of(alloc, shared.cores.count(), shared.rows)?;
+    let found = found_over(rt, alloc, &plan);
+    drop(plan);
+    found?.ok_or(Stop::NoThread)
 }
 
-fn by_four<R: Threads + Wait + Sync>(
+// None where a thread can't be started.
+fn found_over<R: Threads + Wait + Sync>(
     rt: &R,
-    logs: &Logs,
+    alloc: Global,
     plan: &RunPlan,
-    mut first: FreePass,
-) -> Option<u64>
-    requires of_these { first.logs ≡ logs.now }
-    requires plan { logs.now.plan ≡ plan.now }
-    requires stock { 5 ≤ first.stock }
+) -> Result<Option<u64>, OutOfMemory>
     requires few { length plan.now.rows ≤ 1000000 }
 {
-    let second = first.split(logs);
-    let third = first.split(logs);
-    let fourth = first.split(logs);
-    let mut halting = first.split(logs);
-    thread::scope(
-        thread::scope_env(),
-        rt,
-        |scope|
-            requires of_these { (first.logs ≡ logs.now) × (second.logs ≡ logs.now) × (third.logs ≡ logs.now) × (fourth.logs ≡ logs.now) × (halting.logs ≡ logs.now) }
-            requires plan { logs.now.plan ≡ plan.now }
-            requires stock { (1 ≤ first.stock) × (1 ≤ second.stock) × (1 ≤ third.stock) × (1 ≤ fourth.stock) }
-            requires few { length plan.now.rows ≤ 1000000 }
-        {
-            let Ok(others) = scope.spawn(
-                move ||
-                    requires of_these { (first.logs ≡ logs.now) × (second.logs ≡ logs.now) }
-                    requires plan { logs.now.plan ≡ plan.now }
-                    requires stock { (1 ≤ first.stock) × (1 ≤ second.stock) }
-                    requires few { length plan.now.rows ≤ 1000000 }
-                { by_two(rt, logs, plan, first, second) },
-            ) else {
-                return None;
-            };
-            let two = by_two(rt, logs, plan, third, fourth);
-            if two.is_none() {
-                logs.halt_by_main(&mut halting);
-            }
-            Some(others.join(rt)?.wrapping_add(two?))
-        },
-    )
+    let (logs, first) = Logs::make(alloc, plan, SLOTS)?;
+    found_in(rt, alloc, &logs, plan, first)
 }
 
-// Two cores. Where no thread can be started, the others are told to end, and there is no answer.
-fn by_two<R: Threads + Wait + Sync>(
+fn found_in<R: Threads + Wait + Sync>(
     rt: &R,
+    alloc: Global,
     logs: &Logs,
     plan: &RunPlan,
     first: FreePass,
-    mut second: FreePass,
-) -> Option<u64>
-    requires of_these { (first.logs ≡ logs.now) × (second.logs ≡ logs.now) }
+) -> Result<Option<u64>, OutOfMemory>
+    requires of_these { first.logs ≡ logs.now }
     requires plan { logs.now.plan ≡ plan.now }
-    requires stock { (1 ≤ first.stock) × (1 ≤ second.stock) }
+    requires stock { plan.now.cores ≤ first.stock }
     requires few { length plan.now.rows ≤ 1000000 }
 {
     thread::scope(
         thread::scope_env(),
         rt,
         |scope|
-            requires of_these { (first.logs ≡ logs.now) × (second.logs ≡ logs.now) }
+            requires of_these { first.logs ≡ logs.now }
             requires plan { logs.now.plan ≡ plan.now }
-            requires stock { (1 ≤ first.stock) × (1 ≤ second.stock) }
+            requires stock { plan.now.cores ≤ first.stock }
             requires few { length plan.now.rows ≤ 1000000 }
-        {
-            let other = scope.spawn(
-                move ||
-                    requires of_these { first.logs ≡ logs.now }
-                    requires plan { logs.now.plan ≡ plan.now }
-                    requires stock { 1 ≤ first.stock }
-                    requires few { length plan.now.rows ≤ 1000000 }
-                { by_core(rt, logs, plan, first) },
-            );
-            let Ok(other) = other else {
-                logs.halt_by_main(&mut second);
-                return None;
-            };
-            let mine = by_core(rt, logs, plan, second);
-            Some(mine.wrapping_add(other.join(rt)))
-        },
+        { by_all(scope, rt, alloc, logs, plan, first) },
     )
+}
+
+// All cores, of which this thread is the last. Where another can't be started, those that run are told to end.
+fn by_all<'s, E, R: Threads + Wait + Sync + 's>(
+    scope: &Scope<'s, E>,
+    rt: &'s R,
+    alloc: Global,
+    logs: &'s Logs,
+    plan: &'s RunPlan,
+    mut first: FreePass,
+) -> Result<Option<u64>, OutOfMemory>
+    requires of_these { first.logs ≡ logs.now }
+    requires plan { logs.now.plan ≡ plan.now }
+    requires stock { plan.now.cores ≤ first.stock }
+    requires few { length plan.now.rows ≤ 1000000 }
+{
+    let mut others = Vec::with_capacity(alloc, plan.cores() as usize)?;
+    if !start_others(scope, rt, logs, plan, &mut first, &mut others) {
+        logs.halt_by_main(&mut first);
+        drop(others);
+        return Ok(None);
+    }
+    let mine = by_core(rt, logs, plan, first);
+    Ok(Some(joined(rt, mine, others)))
+}
+
+// Starts the threads of all cores but one, which keeps this pass, and tells whether all run.
+fn start_others<'s, E, R: Wait + Sync + 's>(
+    scope: &Scope<'s, E>,
+    rt: &'s R,
+    logs: &'s Logs,
+    plan: &'s RunPlan,
+    first: &mut FreePass,
+    started: &mut Vec<JoinHandle<u64>>,
+) -> bool
+    requires of_these { first.old.logs ≡ logs.now }
+    requires plan { logs.now.plan ≡ plan.now }
+    requires stock { plan.now.cores ≤ first.old.stock }
+    requires few { length plan.now.rows ≤ 1000000 }
+    ensures of_these { first.new.logs ≡ logs.now }
+    ensures stock { 1 ≤ first.new.stock }
+{
+    for _ in 1..plan.cores() {
+        let pass = first.split(logs);
+        let Some(thread) = start(scope, rt, logs, plan, pass) else {
+            return false;
+        };
+        if started.push(thread).is_err() {
+            return false;
+        }
+    }
+    true
+}
+
+fn start<'s, E, R: Wait + Sync + 's>(
+    scope: &Scope<'s, E>,
+    rt: &'s R,
+    logs: &'s Logs,
+    plan: &'s RunPlan,
+    pass: FreePass,
+) -> Option<JoinHandle<u64>>
+    requires of_these { pass.logs ≡ logs.now }
+    requires plan { logs.now.plan ≡ plan.now }
+    requires stock { 1 ≤ pass.stock }
+    requires few { length plan.now.rows ≤ 1000000 }
+{
+    scope
+        .spawn(
+            move ||
+                requires of_these { pass.logs ≡ logs.now }
+                requires plan { logs.now.plan ≡ plan.now }
+                requires stock { 1 ≤ pass.stock }
+                requires few { length plan.now.rows ≤ 1000000 }
+            { by_core(rt, logs, plan, pass) },
+        )
+        .ok()
+}
+
+fn joined<R: Threads>(rt: &R, mine: u64, others: Vec<JoinHandle<u64>>) -> u64 {
+    let mut sum = mine;
+    for other in others {
+        sum = sum.wrapping_add(other.join(rt));
+    }
+    sum
 }
 
 // A core goes through all packets. It looks at the others for those that are lost to it.

@@ -5,7 +5,7 @@ use std::env;
 use std::rt::Env;
 
 /// The rows that a sequencer is given.
-#[derive(Clone, Copy, Debug, PartialEq, Eq)]
+#[derive(Clone, Copy)]
 pub struct Length {
     pub history: u32,
     pub frames: u32,
@@ -14,7 +14,7 @@ pub struct Length {
 }
 
 /// The packets that a program takes.
-#[derive(Clone, Copy, Debug, PartialEq, Eq)]
+#[derive(Clone, Copy)]
 pub struct Load {
     /// How many flows send them, at least 1.
     pub flows: u32,
@@ -24,7 +24,7 @@ pub struct Load {
 }
 
 /// A program whose step is measured.
-#[derive(Clone, Copy, Debug, PartialEq, Eq)]
+#[derive(Clone, Copy)]
 pub enum Stepped {
     Ddos,
     Heavy,
@@ -34,21 +34,34 @@ pub enum Stepped {
 }
 
 /// The frames whose messages go through a lane.
-#[derive(Clone, Copy, Debug, PartialEq, Eq)]
+#[derive(Clone, Copy)]
 pub struct Frames {
     pub count: u32,
     ghost few: { count ≤ 1000000 },
 }
 
 /// How many cores share logs.
-#[derive(Clone, Copy, Debug, PartialEq, Eq)]
+#[derive(Clone, Copy)]
 pub enum Cores {
     Two,
     Four,
 }
 
+impl Cores {
+    /// Their number.
+    pub fn count(self) -> u32
+        ensures some { 1 ≤ result }
+        ensures few { result ≤ 16 }
+    {
+        match self {
+            Cores::Two => 2,
+            Cores::Four => 4,
+        }
+    }
+}
+
 /// The cores that share logs, and the rows of their packets.
-#[derive(Clone, Copy, Debug, PartialEq, Eq)]
+#[derive(Clone, Copy)]
 pub struct Shared {
     pub cores: Cores,
     pub rows: u32,
@@ -56,7 +69,7 @@ pub struct Shared {
 }
 
 /// What is measured.
-#[derive(Clone, Copy, Debug, PartialEq, Eq)]
+#[derive(Clone, Copy)]
 pub enum Measure {
     Sequencer(Length),
     Step(Stepped, Load),
@@ -66,29 +79,56 @@ pub enum Measure {
 
 /// What the arguments ask for, where they are such words and no others.
 pub fn asked_for<R: Env + AllocGlobal>(rt: &R) -> Option<Measure> {
-    let mut words = env::args(rt).ok()?.skip(1);
-    let measure = match words.next()?.as_str() {
-        "sequencer" => {
-            let (history, frames) = (number(words.next())?, number(words.next())?);
-            Measure::Sequencer(rows_of(history, frames)?)
-        }
-        "step" => {
-            let program = program_named(words.next()?.as_str())?;
-            let (flows, packets) = (number(words.next())?, number(words.next())?);
-            Measure::Step(program, packets_of(flows, packets)?)
-        }
-        "lane" => Measure::Lane(frames_of(number(words.next())?)?),
-        "log" => {
-            let cores = cores_of(words.next()?.as_str())?;
-            Measure::Log(shared_by(cores, number(words.next())?)?)
-        }
-        _ => return None,
-    };
-    words.next().is_none().then_some(measure)
+    let words: Vec<String> = env::args(rt).ok()?.skip(1).collect(rt.alloc()).ok()?;
+    measure_of(&words)
 }
 
-fn number(word: Option<String>) -> Option<u32> {
-    word?.parse::<u32>().ok()
+fn measure_of(words: &[String]) -> Option<Measure> {
+    let [what, operands @ ..] = words else {
+        return None;
+    };
+    match what.as_str() {
+        "sequencer" => sequencer_of(operands),
+        "step" => step_of(operands),
+        "lane" => lane_of(operands),
+        "log" => log_of(operands),
+        _ => None,
+    }
+}
+
+fn sequencer_of(operands: &[String]) -> Option<Measure> {
+    let [history, frames] = operands else {
+        return None;
+    };
+    Some(Measure::Sequencer(rows_of(number(history)?, number(frames)?)?))
+}
+
+fn step_of(operands: &[String]) -> Option<Measure> {
+    let [program, flows, packets] = operands else {
+        return None;
+    };
+    Some(Measure::Step(
+        program_named(program)?,
+        packets_of(number(flows)?, number(packets)?)?,
+    ))
+}
+
+fn lane_of(operands: &[String]) -> Option<Measure> {
+    let [count] = operands else {
+        return None;
+    };
+    Some(Measure::Lane(frames_of(number(count)?)?))
+}
+
+fn log_of(operands: &[String]) -> Option<Measure> {
+    let [cores, rows] = operands else {
+        return None;
+    };
+    Some(Measure::Log(shared_by(cores_of(cores)?, number(rows)?)?))
+}
+
+fn number(word: &str) -> Option<u32> {
+    word.parse::<u32>().ok()
 }
 
 fn rows_of(history: u32, frames: u32) -> Option<Length> {

@@ -90,10 +90,14 @@ pub fn checksum_of(alloc: Global, program: Stepped, load: Load) -> Result<u64, O
         Stepped::Heavy => checksum::<Heavy>(alloc, &HeavySettings::new(most), &DATA, load),
         Stepped::Bucket => checksum::<Bucket>(alloc, &BucketSettings::new(most), &DATA, load),
         Stepped::Knock => checksum::<Knock>(alloc, &KnockSettings::new(most), &KNOCKS, load),
-        Stepped::Conn if most < load.flows => {
-            checksum::<Conn>(alloc, &ConnSettings::new(most), &OPENINGS, load)
+        Stepped::Conn => {
+            let talk = if most < load.flows {
+                &OPENINGS[..]
+            } else {
+                &CONNECTION[..]
+            };
+            checksum::<Conn>(alloc, &ConnSettings::new(most), talk, load)
         }
-        Stepped::Conn => checksum::<Conn>(alloc, &ConnSettings::new(most), &CONNECTION, load),
     }
 }
 

@@ -1,7 +1,7 @@
 use scr_base::OutOfMemory;
 
 /// Why nothing was measured.
-#[derive(Clone, Copy, Debug, PartialEq, Eq)]
+#[derive(Clone, Copy, Debug)]
 pub enum Stop {
     OutOfMemory(OutOfMemory),
     /// A thread had no memory for what it sends.

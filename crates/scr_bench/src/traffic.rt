@@ -19,7 +19,7 @@ const TCP_OVER_IPV4: u64 = (6 << 24) | 2;
 const STRIDE: u32 = 7_919;
 
 /// A segment of TCP between a client and the server, whose port is here.
-#[derive(Clone, Copy, Debug, PartialEq, Eq)]
+#[derive(Clone, Copy)]
 pub enum Segment {
     FromClient { port: u16, flags: u8 },
     FromServer { port: u16, flags: u8 },

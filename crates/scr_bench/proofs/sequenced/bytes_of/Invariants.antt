@@ -1,5 +1,5 @@
 use Rattle.std.proofs.Common.{◌≡◌}
-use Rattle.scr_bench.proofs.sequenced.bytes_sequenced.Given as goal
+use Rattle.scr_bench.proofs.sequenced.bytes_of.Given as goal
 
 abbrev pub invariant-loop-n : goal.invariant-loop-n
 invariant-loop-n l = l.sequencer.taken ≡ l.n
