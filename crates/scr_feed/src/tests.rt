@@ -1,4 +1,4 @@
-ghost use Rattle.std.specs.Prelude.{◌≤◌};
+ghost use Rattle.std.specs.Prelude.{◌≤◌, length, IfOk};
 
 use crate::{Feed, Step};
 use scr_base::{OutOfMemory, Row};
@@ -8,6 +8,7 @@ use scr_wire::{MessageKind, Packet};
 use std::alloc::Global;
 use std::sync::Wait;
 use std::test::Fail;
+use std::thread::Threads;
 
 mod taking;
 
@@ -24,13 +25,20 @@ const ROW: Row = Row {
     w6: 0,
 };
 
+// So many of them.
+fn rows_of(alloc: Global, frames: u16) -> Result<Vec<Row>, OutOfMemory>
+    ensures { IfOk result (λ rows. length rows.items ≤ 65535) }
+{
+    let rows = vec![in alloc; ROW; usize::from(frames)]?;
+    Ok(rows)
+}
+
 // A plan of such rows, whose frames carry their own packets alone.
-fn plan_of(alloc: Global, frames: u16, cores: u32, link: Link) -> Result<RunPlan, Fail>
+fn plan_of(alloc: Global, frames: u16, cores: u32, link: Link) -> Result<RunPlan, OutOfMemory>
     requires some { 1 ≤ cores }
     requires few { cores ≤ 16 }
 {
-    let rows = vec![in alloc; ROW; usize::from(frames)]?;
-    Ok(RunPlan::make(rows, cores, 0, link))
+    Ok(RunPlan::make(rows_of(alloc, frames)?, cores, 0, link))
 }
 
 // The message of frame n, where a frame carries its own packet alone.
@@ -56,6 +64,11 @@ enum Act {
     FindsNone,
 }
 
+// Whether the next packet of the lane is this frame, where there is a packet.
+fn takes<R: Wait>(rt: &R, end: &mut ReceiveEnd, n: u8) -> bool {
+    end.has_item() && is_frame(&end.pop(rt), n)
+}
+
 // Whether this comes of it.
 fn does<R: Wait>(
     rt: &R,
@@ -65,7 +78,7 @@ fn does<R: Wait>(
 ) -> Result<bool, OutOfMemory> {
     match act {
         Act::Feeds(step) => Ok(feed.step(rt)? == *step),
-        Act::Takes(n) => Ok(end.has_item() && is_frame(&end.pop(rt), *n)),
+        Act::Takes(n) => Ok(takes(rt, end, *n)),
         Act::FindsNone => Ok(!end.has_item()),
     }
 }
@@ -171,23 +184,33 @@ fn odd_frames_with_beacons(alloc: Global) -> Result<Vec<Taken>, OutOfMemory> {
     Ok(lane)
 }
 
+// What comes of the two lanes of a plan.
+fn two_lanes<R: Threads + Wait + Sync>(
+    rt: &R,
+    alloc: Global,
+    plan: &RunPlan,
+) -> Result<(Vec<Taken>, Vec<Taken>), Fail> {
+    let (feed, mut ends) = Feed::make(alloc, plan, 2)?;
+    let one = ends.pop().ok_or("an end")?;
+    let zero = ends.pop().ok_or("another end")?;
+    let lanes = through_threads(rt, alloc, feed, zero, one).ok_or("the whole lanes")?;
+    Ok(lanes)
+}
+
+// What the lane of core 1 is over the same link.
+const BEACONS: [Taken; 3] = [
+    (MessageKind::Beacon, 256, 0),
+    (MessageKind::Beacon, 512, 0),
+    (MessageKind::End, 600, 0),
+];
+
 #[test]
 fn whole_lanes_between_two_threads(rt: HostRuntime) -> Result<(), Fail> {
     let plan = plan_of(rt.alloc(), 600, 2, odd_frames(rt.alloc())?)?;
-    let (feed, mut ends) = Feed::make(rt.alloc(), &plan, 2)?;
-    let one = ends.pop().ok_or("an end")?;
-    let zero = ends.pop().ok_or("another end")?;
-    let (of_zero, of_one) = through_threads(&rt, rt.alloc(), feed, zero, one).ok_or(
-        "the whole lanes",
-    )?;
+    let (of_zero, of_one) = two_lanes(&rt, rt.alloc(), &plan)?;
     let lane = odd_frames_with_beacons(rt.alloc())?;
     assert_eq!(rt; lane.len(), 304);
     assert_eq!(rt; of_zero.as_slice(), lane.as_slice());
-    let beacons = [
-        (MessageKind::Beacon, 256, 0),
-        (MessageKind::Beacon, 512, 0),
-        (MessageKind::End, 600, 0),
-    ];
-    assert_eq!(rt; of_one.as_slice(), beacons.as_slice());
+    assert_eq!(rt; of_one.as_slice(), BEACONS.as_slice());
     Ok(())
 }

@@ -13,7 +13,6 @@ use scr_knock::KnockSettings;
 use scr_plan::Fate;
 use scr_tables::{Decision, Pattern, Rule};
 use std::alloc::Global;
-use std::test::Fail;
 
 /// The words of a line, parted by single spaces. An empty line has none.
 fn words_in(alloc: Global, line: &str) -> Result<Vec<Word>, OutOfMemory> {
@@ -31,224 +30,274 @@ fn read(alloc: Global, line: &str) -> Result<RunSettings, WordsError> {
     read_words(alloc, &words[..words.len().min(1000)])
 }
 
-#[test]
-fn has_a_default_for_each_operand(rt: HostRuntime) -> Result<(), Fail> {
-    let settings = read(rt.alloc(), "run program=ddos").map_err(|_| "refused")?;
-    assert_eq!(rt; settings.command, Command::Run);
-    let ProgramSettings::One(OneSettings::Ddos(program)) = settings.program else {
-        return Err(Fail::from("another program"));
-    };
-    assert_eq!(rt; (program.threshold, program.flows), (1000, 4096));
-    assert_eq!(rt; (settings.shape.cores, settings.shape.history), (1, 0));
-    assert_eq!(rt; (settings.shape.ring, settings.shape.threads), (1024, true));
-    assert_eq!(rt; settings.shape.link.fate(1), Fate::Once { delay: 0 });
-    assert_eq!(rt;
-        (settings.start, settings.frames, settings.hosts),
-        (0, 1000, 16)
-    );
-    Ok(())
-}
+/// A load of each greatest setting.
+const GREATEST: &str =
+    "load program=ddos flows=65536 cores=16 history=64 ring=4096 start=18446744073709551615 frames=1000000 hosts=65536 threshold=4294967295";
 
+const SPRAY: &str =
+    "spray drop=2 cores=4 program=knock ports=1,2,3 repeat=5 delay=6:1 history=64 flows=9";
+
+const REPLAY: &str = "replay threads=no program=ddos ring=7 threshold=3";
+
+/// The one program that a line chooses.
 fn program(alloc: Global, line: &str) -> Option<OneSettings> {
-    one(read(alloc, line).ok()?.program)
-}
-
-fn one(program: ProgramSettings) -> Option<OneSettings> {
-    match program {
+    match read(alloc, line).ok()?.program {
         ProgramSettings::One(settings) => Some(settings),
         _ => None,
     }
 }
 
+/// Lines, with the one program that each chooses.
+const PROGRAMS: [(&str, OneSettings); 15] = [
+    // Each with what is chosen where its operands are left out.
+    (
+        "run program=ddos",
+        OneSettings::Ddos(DdosSettings {
+            threshold: 1000,
+            flows: 4096,
+        }),
+    ),
+    (
+        "plain program=heavy",
+        OneSettings::Heavy(HeavySettings {
+            bytes: 1_000_000,
+            flows: 4096,
+        }),
+    ),
+    (
+        "load program=bucket",
+        OneSettings::Bucket(BucketSettings {
+            rate: 1000,
+            burst: 100,
+            flows: 4096,
+        }),
+    ),
+    (
+        "run program=knock",
+        OneSettings::Knock(KnockSettings {
+            first: 7000,
+            second: 8000,
+            third: 9000,
+            flows: 4096,
+        }),
+    ),
+    (
+        "run program=conn",
+        OneSettings::Conn(ConnSettings {
+            idle: 60_000_000,
+            flows: 4096,
+        }),
+    ),
+    // Each with its operands.
+    (
+        "run threshold=4294967295 flows=65536 program=ddos",
+        OneSettings::Ddos(DdosSettings {
+            threshold: 4_294_967_295,
+            flows: 65_536,
+        }),
+    ),
+    (
+        "run program=heavy bytes=1000000000000 flows=1",
+        OneSettings::Heavy(HeavySettings {
+            bytes: 1_000_000_000_000,
+            flows: 1,
+        }),
+    ),
+    (
+        "run burst=1000000000 program=bucket flows=9 rate=0",
+        OneSettings::Bucket(BucketSettings {
+            rate: 0,
+            burst: 1_000_000_000,
+            flows: 9,
+        }),
+    ),
+    (
+        "run ports=0001,65535,022 program=knock",
+        OneSettings::Knock(KnockSettings {
+            first: 1,
+            second: 65_535,
+            third: 22,
+            flows: 4096,
+        }),
+    ),
+    (
+        "run program=conn idle=10000000000000",
+        OneSettings::Conn(ConnSettings {
+            idle: 10_000_000_000_000,
+            flows: 4096,
+        }),
+    ),
+    (
+        GREATEST,
+        OneSettings::Ddos(DdosSettings {
+            threshold: 4_294_967_295,
+            flows: 65_536,
+        }),
+    ),
+    (
+        "plain program=bucket rate=1000000000 burst=00001000000000 flows=065536",
+        OneSettings::Bucket(BucketSettings {
+            rate: 1_000_000_000,
+            burst: 1_000_000_000,
+            flows: 65_536,
+        }),
+    ),
+    (
+        REPLAY,
+        OneSettings::Ddos(DdosSettings {
+            threshold: 3,
+            flows: 4096,
+        }),
+    ),
+    // Whatever is lost.
+    (
+        "run threshold=2 program=ddos drop=",
+        OneSettings::Ddos(DdosSettings {
+            threshold: 2,
+            flows: 4096,
+        }),
+    ),
+    (
+        "run program=ddos threshold=2 drop=9999",
+        OneSettings::Ddos(DdosSettings {
+            threshold: 2,
+            flows: 4096,
+        }),
+    ),
+];
+
 #[test]
-fn has_the_defaults_of_each_program(rt: HostRuntime) -> Result<(), Fail> {
-    let bytes = 1_000_000;
-    let heavy = OneSettings::Heavy(HeavySettings { bytes, flows: 4096 });
-    assert_eq!(rt; program(rt.alloc(), "plain program=heavy"), Some(heavy));
-    let (rate, burst) = (1000, 100);
-    let bucket = OneSettings::Bucket(BucketSettings {
-        rate,
-        burst,
-        flows: 4096,
-    });
-    assert_eq!(rt; program(rt.alloc(), "load program=bucket"), Some(bucket));
-    let (first, second, third) = (7000, 8000, 9000);
-    let knock = OneSettings::Knock(KnockSettings {
-        first,
-        second,
-        third,
-        flows: 4096,
-    });
-    assert_eq!(rt; program(rt.alloc(), "run program=knock"), Some(knock));
-    let idle = 60_000_000;
-    let conn = OneSettings::Conn(ConnSettings { idle, flows: 4096 });
-    assert_eq!(rt; program(rt.alloc(), "run program=conn"), Some(conn));
-    Ok(())
+fn chooses_one_program(rt: HostRuntime) {
+    for (line, settings) in &PROGRAMS {
+        assert_eq!(rt; program(rt.alloc(), line), Some(*settings), "at {line}");
+    }
+}
+
+/// The two programs of the chain that a line chooses.
+fn chain(alloc: Global, line: &str) -> Option<(OneSettings, OneSettings)> {
+    match read(alloc, line).ok()?.program {
+        ProgramSettings::Chain { first, second } => Some((first, second)),
+        _ => None,
+    }
 }
 
 #[test]
-fn takes_each_program_operand(rt: HostRuntime) -> Result<(), Fail> {
-    let (threshold, flows) = (4_294_967_295, 65_536);
-    let ddos = OneSettings::Ddos(DdosSettings { threshold, flows });
-    let line = "run threshold=4294967295 flows=65536 program=ddos";
-    assert_eq!(rt; program(rt.alloc(), line), Some(ddos));
-    let bytes = 1_000_000_000_000;
-    let heavy = OneSettings::Heavy(HeavySettings { bytes, flows: 1 });
-    let line = "run program=heavy bytes=1000000000000 flows=1";
-    assert_eq!(rt; program(rt.alloc(), line), Some(heavy));
-    let (rate, burst) = (0, 1_000_000_000);
-    let bucket = OneSettings::Bucket(BucketSettings {
-        rate,
-        burst,
-        flows: 9,
-    });
-    let line = "run burst=1000000000 program=bucket flows=9 rate=0";
-    assert_eq!(rt; program(rt.alloc(), line), Some(bucket));
-    let (first, second, third) = (1, 65_535, 22);
-    let knock = OneSettings::Knock(KnockSettings {
-        first,
-        second,
-        third,
-        flows: 4096,
-    });
-    let line = "run ports=0001,65535,022 program=knock";
-    assert_eq!(rt; program(rt.alloc(), line), Some(knock));
-    let idle = 10_000_000_000_000;
-    let conn = OneSettings::Conn(ConnSettings { idle, flows: 4096 });
-    let line = "run program=conn idle=10000000000000";
-    assert_eq!(rt; program(rt.alloc(), line), Some(conn));
-    Ok(())
-}
-
-#[test]
-fn takes_a_chain(rt: HostRuntime) -> Result<(), Fail> {
+fn takes_a_chain(rt: HostRuntime) {
     let line = "run second=heavy threshold=3 program=chain bytes=60 first=ddos flows=9";
-    let program = read(rt.alloc(), line).map_err(|_| "refused")?.program;
-    let ProgramSettings::Chain { first, second } = program else {
-        return Err(Fail::from("another program"));
-    };
     let (threshold, bytes, flows) = (3, 60, 9);
     let ddos = OneSettings::Ddos(DdosSettings { threshold, flows });
     let heavy = OneSettings::Heavy(HeavySettings { bytes, flows });
-    assert_eq!(rt; (first, second), (ddos, heavy));
-    Ok(())
+    assert_eq!(rt; chain(rt.alloc(), line), Some((ddos, heavy)));
+}
+
+/// How many sources the table that a line chooses keeps, how many rules it has, and the first of them.
+fn table(alloc: Global, line: &str) -> Option<(u32, usize, Rule)> {
+    let chosen = read(alloc, line).ok()?;
+    let ProgramSettings::Table(settings) = &chosen.program else {
+        return None;
+    };
+    let rules = settings.table.rules();
+    Some((settings.flows, rules.len(), *rules.first()?))
 }
 
 #[test]
-fn takes_a_table(rt: HostRuntime) -> Result<(), Fail> {
+fn takes_a_table(rt: HostRuntime) {
     let line = "load table=0:u>1/D,0:*>0/D,1:*>1/P flows=7 program=table";
-    let program = read(rt.alloc(), line).map_err(|_| "refused")?.program;
-    let ProgramSettings::Table(settings) = program else {
-        return Err(Fail::from("another program"));
-    };
-    assert_eq!(rt; settings.flows, 7);
-    let rules = settings.table.rules();
-    assert_eq!(rt; rules.len(), 3);
     let first = Rule {
         state: 0,
         pattern: Pattern::Udp,
         next: 1,
         verdict: Decision::Drop,
     };
-    assert_eq!(rt; rules[0], first);
-    Ok(())
+    assert_eq!(rt; table(rt.alloc(), line), Some((7, 3, first)));
 }
 
-#[test]
-fn takes_the_shape_of_a_run(rt: HostRuntime) -> Result<(), Fail> {
-    let line =
-        "load threads=no ring=7 drop=3,5-9/2 hosts=65536 program=ddos cores=3 frames=0 start=5";
-    let settings = read(rt.alloc(), line).map_err(|_| "refused")?;
-    assert_eq!(rt; settings.command, Command::Load);
-    let shape = settings.shape;
-    assert_eq!(rt; (shape.cores, shape.history, shape.ring), (3, 2, 7));
-    assert!(rt; !shape.threads);
-    assert_eq!(rt;
+/// What is chosen beside the program and the link: what to do; how many cores there are, and their history; how many slots,
+/// and whether there are threads; the start, the frames and the hosts of the capture that is made up.
+type Chosen = (Command, (u32, u32), (u32, bool), (u64, u32, u32));
+
+fn chosen(alloc: Global, line: &str) -> Option<Chosen> {
+    let settings = read(alloc, line).ok()?;
+    let shape = &settings.shape;
+    Some((
+        settings.command,
+        (shape.cores, shape.history),
+        (shape.ring, shape.threads),
         (settings.start, settings.frames, settings.hosts),
-        (5, 0, 65_536)
-    );
-    let settings = read(rt.alloc(), "run history=0 program=ddos cores=16").map_err(|_| "refused")?;
-    assert_eq!(rt; (settings.shape.cores, settings.shape.history), (16, 0));
-    Ok(())
+    ))
 }
 
-#[test]
-fn takes_the_words_of_a_stream(rt: HostRuntime) -> Result<(), Fail> {
-    let line =
-        "spray drop=2 cores=4 program=knock ports=1,2,3 repeat=5 delay=6:1 history=64 flows=9";
-    let settings = read(rt.alloc(), line).map_err(|_| "refused")?;
-    assert_eq!(rt; settings.command, Command::Spray);
-    let shape = settings.shape;
-    assert_eq!(rt; (shape.cores, shape.history), (4, 64));
-    assert_eq!(rt;
-        (shape.link.fate(2), shape.link.fate(5)),
-        (Fate::Lost, Fate::Twice { delay: 0 })
-    );
-    assert_eq!(rt; (shape.ring, shape.threads), (1024, true));
-    let settings = read(
-        rt.alloc(),
-        "replay threads=no program=ddos ring=7 threshold=3",
-    )
-    .map_err(|_| "refused")?;
-    assert_eq!(rt; settings.command, Command::Replay);
-    assert_eq!(rt; (settings.shape.ring, settings.shape.threads), (7, false));
-    assert_eq!(rt; (settings.shape.cores, settings.shape.history), (1, 0));
-    let (threshold, flows) = (3, 4096);
-    assert_eq!(rt;
-        one(settings.program),
-        Some(OneSettings::Ddos(DdosSettings { threshold, flows }))
-    );
-    Ok(())
-}
+/// Lines, with what each chooses.
+const CHOSEN: [(&str, Chosen); 6] = [
+    (
+        "run program=ddos",
+        (Command::Run, (1, 0), (1024, true), (0, 1000, 16)),
+    ),
+    (
+        "load threads=no ring=7 drop=3,5-9/2 hosts=65536 program=ddos cores=3 frames=0 start=5",
+        (Command::Load, (3, 2), (7, false), (5, 0, 65_536)),
+    ),
+    (
+        "run history=0 program=ddos cores=16",
+        (Command::Run, (16, 0), (1024, true), (0, 1000, 16)),
+    ),
+    (
+        SPRAY,
+        (Command::Spray, (4, 64), (1024, true), (0, 1000, 16)),
+    ),
+    (REPLAY, (Command::Replay, (1, 0), (7, false), (0, 1000, 16))),
+    (
+        GREATEST,
+        (
+            Command::Load,
+            (16, 64),
+            (4096, true),
+            (u64::MAX, 1_000_000, 65_536),
+        ),
+    ),
+];
 
 #[test]
-fn takes_a_link(rt: HostRuntime) -> Result<(), Fail> {
-    let line = "run delay=6:2,0005:1000 program=ddos repeat=4-6/2,5 drop=3,5-9/2";
-    let settings = read(rt.alloc(), line).map_err(|_| "refused")?;
-    let link = settings.shape.link;
-    assert_eq!(rt; (link.fate(3), link.fate(5)), (Fate::Lost, Fate::Lost));
-    assert_eq!(rt; link.fate(4), Fate::Twice { delay: 0 });
-    assert_eq!(rt; link.fate(6), Fate::Twice { delay: 2 });
-    assert_eq!(rt; link.fate(8), Fate::Once { delay: 0 });
-    let line = "load repeat= delay=9:1,1000000000:1000 program=ddos";
-    let settings = read(rt.alloc(), line).map_err(|_| "refused")?;
-    assert_eq!(rt; settings.shape.link.fate(9), Fate::Once { delay: 1 });
-    Ok(())
+fn takes_the_shape_of_a_run(rt: HostRuntime) {
+    for (line, wanted) in &CHOSEN {
+        assert_eq!(rt; chosen(rt.alloc(), line), Some(*wanted), "at {line}");
+    }
 }
 
-#[test]
-fn gives_the_greatest_of_each_setting(rt: HostRuntime) -> Result<(), Fail> {
-    let line =
-        "load program=ddos flows=65536 cores=16 history=64 ring=4096 start=18446744073709551615 frames=1000000 hosts=65536 threshold=4294967295";
-    let settings = read(rt.alloc(), line).map_err(|_| "refused")?;
-    let (threshold, flows) = (4_294_967_295, 65_536);
-    let ddos = OneSettings::Ddos(DdosSettings { threshold, flows });
-    assert_eq!(rt; one(settings.program), Some(ddos));
-    let shape = settings.shape;
-    assert_eq!(rt; (shape.cores, shape.history, shape.ring), (16, 64, 4096));
-    assert_eq!(rt;
-        (settings.start, settings.frames, settings.hosts),
-        (u64::MAX, 1_000_000, 65_536)
-    );
-    let (rate, burst) = (1_000_000_000, 1_000_000_000);
-    let bucket = OneSettings::Bucket(BucketSettings { rate, burst, flows });
-    let line = "plain program=bucket rate=1000000000 burst=00001000000000 flows=065536";
-    assert_eq!(rt; program(rt.alloc(), line), Some(bucket));
-    Ok(())
+/// What becomes of a frame over the link of a line.
+fn fate(alloc: Global, line: &str, number: u32) -> Option<Fate> {
+    Some(read(alloc, line).ok()?.shape.link.fate(number))
 }
 
+const LINK: &str = "run delay=6:2,0005:1000 program=ddos repeat=4-6/2,5 drop=3,5-9/2";
+
+/// Lines, each with a frame, and with what becomes of it.
+const FATES: [(&str, u32, Fate); 11] = [
+    ("run program=ddos", 1, Fate::Once { delay: 0 }),
+    (SPRAY, 2, Fate::Lost),
+    (SPRAY, 5, Fate::Twice { delay: 0 }),
+    (LINK, 3, Fate::Lost),
+    (LINK, 5, Fate::Lost),
+    (LINK, 4, Fate::Twice { delay: 0 }),
+    (LINK, 6, Fate::Twice { delay: 2 }),
+    (LINK, 8, Fate::Once { delay: 0 }),
+    (
+        "load repeat= delay=9:1,1000000000:1000 program=ddos",
+        9,
+        Fate::Once { delay: 1 },
+    ),
+    // An empty list, and numbers beyond the run.
+    (
+        "run threshold=2 program=ddos drop=",
+        1,
+        Fate::Once { delay: 0 },
+    ),
+    ("run program=ddos threshold=2 drop=9999", 9999, Fate::Lost),
+];
+
 #[test]
-fn takes_an_empty_drop_list_and_numbers_beyond_the_run(rt: HostRuntime) -> Result<(), Fail> {
-    let ddos = OneSettings::Ddos(DdosSettings {
-        threshold: 2,
-        flows: 4096,
-    });
-    let settings = read(rt.alloc(), "run threshold=2 program=ddos drop=").map_err(|_| "refused")?;
-    assert_eq!(rt; one(settings.program), Some(ddos));
-    assert_eq!(rt; settings.shape.link.fate(1), Fate::Once { delay: 0 });
-    let line = "run program=ddos threshold=2 drop=9999";
-    let settings = read(rt.alloc(), line).map_err(|_| "refused")?;
-    assert_eq!(rt; one(settings.program), Some(ddos));
-    assert_eq!(rt; settings.shape.link.fate(9999), Fate::Lost);
-    Ok(())
+fn takes_a_link(rt: HostRuntime) {
+    for (line, number, wanted) in &FATES {
+        assert_eq!(rt; fate(rt.alloc(), line, *number), Some(*wanted), "at {line}");
+    }
 }

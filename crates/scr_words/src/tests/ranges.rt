@@ -1,9 +1,9 @@
 //! Values at the ends of their ranges and beyond.
 
 use super::read;
-use super::refusals::{at, refusal};
-use crate::WordCause;
-use std::test::Fail;
+use crate::{WordCause, WordFault, WordsError};
+use std::alloc::Global;
+use std::process::Abort;
 
 /// Numbers at the ends of their ranges and beyond, and long ones.
 const NUMBERS: [(&str, Option<WordCause>); 55] = [
@@ -103,13 +103,26 @@ const NUMBERS: [(&str, Option<WordCause>); 55] = [
     ("load program=ddos threads=no", None),
 ];
 
-#[test]
-fn takes_numbers_of_their_ranges(rt: HostRuntime) -> Result<(), Fail> {
-    for (words, cause) in NUMBERS {
-        match cause {
-            Some(cause) => assert_eq!(rt; refusal(rt.alloc(), words), at(3, cause), "at {words}"),
-            None => assert!(rt; read(rt.alloc(), words).is_ok(), "at {words}"),
-        }
+// What comes of the words: none where they are taken.
+fn error_at(alloc: Global, words: &str) -> Option<WordsError> {
+    read(alloc, words).err()
+}
+
+// Asks for the cause of each line whose third word is refused, and that the others are taken.
+fn expect(rt: &impl Abort, alloc: Global, cases: &[(&str, Option<WordCause>)]) {
+    for (words, cause) in cases {
+        let wanted = refused(*cause);
+        assert_eq!(rt; error_at(alloc, words), wanted, "at {words}");
     }
-    Ok(())
+}
+
+// What comes of a third word.
+fn refused(cause: Option<WordCause>) -> Option<WordsError> {
+    let cause = cause?;
+    Some(WordsError::Refused(WordFault { word: 3, cause }))
+}
+
+#[test]
+fn takes_numbers_of_their_ranges(rt: HostRuntime) {
+    expect(&rt, rt.alloc(), &NUMBERS);
 }

@@ -2,21 +2,29 @@
 
 use super::read;
 use crate::{WordCause, WordFault, WordsError, put_word_line, read_words};
-use scr_base::{Batch, SureSink, Word};
+use scr_base::{Batch, OutOfMemory, SureSink, Word};
 use scr_plan::{DelayCause, DropCause};
 use scr_tables::TableCause;
 use std::alloc::Global;
+use std::process::Abort;
 use std::test::Fail;
 
-pub(super) fn refusal(alloc: Global, line: &str) -> Option<WordFault> {
+fn refusal(alloc: Global, line: &str) -> Option<WordFault> {
     match read(alloc, line) {
         Err(WordsError::Refused(fault)) => Some(fault),
         _ => None,
     }
 }
 
-pub(super) fn at(word: u32, cause: WordCause) -> Option<WordFault> {
-    Some(WordFault { word, cause })
+// Asks for the refusal of each line.
+fn expect(rt: &impl Abort, alloc: Global, cases: &[(&str, u32, WordCause)]) {
+    for (words, word, cause) in cases {
+        let wanted = WordFault {
+            word: *word,
+            cause: *cause,
+        };
+        assert_eq!(rt; refusal(alloc, words), Some(wanted), "at {words}");
+    }
 }
 
 /// Words, and the line that must come.
@@ -102,17 +110,28 @@ const REFUSED: [(&str, &str); 37] = [
     ),
 ];
 
-#[test]
-fn writes_the_line_of_each_refusal(rt: HostRuntime) -> Result<(), Fail> {
-    for (words, line) in REFUSED {
-        let fault = refusal(rt.alloc(), words).ok_or("taken")?;
-        let mut err = SureSink::new(rt.alloc(), 7);
-        let mut batch = Batch::new();
-        put_word_line(&mut batch, &mut err, &fault)?;
-        batch.finish(&mut err)?;
+// What is written of this refusal.
+fn written(alloc: Global, fault: &WordFault) -> Option<SureSink> {
+    let mut err = SureSink::new(alloc, 7);
+    let mut batch = Batch::new();
+    put_word_line(&mut batch, &mut err, fault).ok()?;
+    batch.finish(&mut err).ok()?;
+    Some(err)
+}
+
+// Asks for the line of each refusal.
+fn expect_lines(rt: &impl Abort, alloc: Global, cases: &[(&str, &str)]) -> Result<(), Fail> {
+    for (words, line) in cases {
+        let fault = refusal(alloc, words).ok_or("taken")?;
+        let err = written(alloc, &fault).ok_or("not written")?;
         assert_eq!(rt; err.written(), line.as_bytes(), "at {words}");
     }
     Ok(())
+}
+
+#[test]
+fn writes_the_line_of_each_refusal(rt: HostRuntime) -> Result<(), Fail> {
+    expect_lines(&rt, rt.alloc(), &REFUSED)
 }
 
 /// Lines with more than one fault, each beside the same with the faults in the other order, or with one of them mended.
@@ -323,81 +342,67 @@ const SEVERAL: [(&str, u32, WordCause); 84] = [
 ];
 
 #[test]
-fn answers_the_first_fault(rt: HostRuntime) -> Result<(), Fail> {
-    for (words, word, cause) in SEVERAL {
-        assert_eq!(rt; refusal(rt.alloc(), words), at(word, cause), "at {words}");
+fn answers_the_first_fault(rt: HostRuntime) {
+    expect(&rt, rt.alloc(), &SEVERAL);
+}
+
+/// Words with more spaces, or with more than one `=`.
+const SPLIT: [(&str, u32, WordCause); 11] = [
+    (" ", 1, WordCause::Command),
+    ("run ", 2, WordCause::NoEquals),
+    ("run program=ddos  cores=0", 3, WordCause::NoEquals),
+    (" run program=ddos", 1, WordCause::Command),
+    ("run  program=ddos", 2, WordCause::NoEquals),
+    ("load program=ddos frames=1 ", 4, WordCause::NoEquals),
+    ("run =", 2, WordCause::UnknownName),
+    ("run =ddos", 2, WordCause::UnknownName),
+    ("run program=ddos=x", 2, WordCause::Program),
+    ("run cores=1=1", 2, WordCause::Value),
+    ("run=1 program=ddos", 1, WordCause::Command),
+];
+
+#[test]
+fn splits_words_at_the_first_equals(rt: HostRuntime) {
+    expect(&rt, rt.alloc(), &SPLIT);
+}
+
+// What `run` with this word is refused for.
+fn refusal_of_run_with(alloc: Global, word: &[u8]) -> Option<WordFault> {
+    let words = [Word::of(alloc, b"run").ok()?, Word::of(alloc, word).ok()?];
+    match read_words(alloc, &words) {
+        Err(WordsError::Refused(fault)) => Some(fault),
+        _ => None,
     }
-    Ok(())
 }
 
 #[test]
-fn splits_words_at_the_first_equals(rt: HostRuntime) -> Result<(), Fail> {
-    let alloc = rt.alloc();
-    assert_eq!(rt; refusal(alloc, " "), at(1, WordCause::Command));
-    assert_eq!(rt; refusal(alloc, "run "), at(2, WordCause::NoEquals));
-    assert_eq!(rt;
-        refusal(alloc, "run program=ddos  cores=0"),
-        at(3, WordCause::NoEquals)
-    );
-    assert_eq!(rt;
-        refusal(alloc, " run program=ddos"),
-        at(1, WordCause::Command)
-    );
-    assert_eq!(rt;
-        refusal(alloc, "run  program=ddos"),
-        at(2, WordCause::NoEquals)
-    );
-    assert_eq!(rt;
-        refusal(alloc, "load program=ddos frames=1 "),
-        at(4, WordCause::NoEquals)
-    );
-    assert_eq!(rt; refusal(alloc, "run ="), at(2, WordCause::UnknownName));
-    assert_eq!(rt; refusal(alloc, "run =ddos"), at(2, WordCause::UnknownName));
-    assert_eq!(rt;
-        refusal(alloc, "run program=ddos=x"),
-        at(2, WordCause::Program)
-    );
-    assert_eq!(rt; refusal(alloc, "run cores=1=1"), at(2, WordCause::Value));
-    assert_eq!(rt;
-        refusal(alloc, "run=1 program=ddos"),
-        at(1, WordCause::Command)
-    );
-    Ok(())
-}
-
-#[test]
-fn takes_words_of_any_bytes(rt: HostRuntime) -> Result<(), Fail> {
-    let run = Word::of(rt.alloc(), b"run")?;
-    let words = [run, Word::of(rt.alloc(), &[0xFF, b'=', 0])?];
-    let wanted = WordsError::Refused(WordFault {
+fn takes_words_of_any_bytes(rt: HostRuntime) {
+    let wanted = WordFault {
         word: 2,
         cause: WordCause::UnknownName,
-    });
-    let Err(error) = read_words(rt.alloc(), &words) else {
-        return Err(Fail::from("taken"));
     };
-    assert_eq!(rt; error, wanted);
-    Ok(())
+    let fault = refusal_of_run_with(rt.alloc(), &[0xFF, b'=', 0]);
+    assert_eq!(rt; fault, Some(wanted));
 }
 
-#[test]
-fn refuses_the_257th_piece(rt: HostRuntime) -> Result<(), Fail> {
-    let mut text = Vec::from_slice(rt.alloc(), b"drop=")?;
+// A drop list of 257 pieces.
+fn too_many_pieces(alloc: Global) -> Result<Vec<u8>, OutOfMemory> {
+    let mut text = Vec::from_slice(alloc, b"drop=")?;
     for _ in 0..256 {
         text.extend_from_slice(b"1,")?;
     }
     text.push(b'1')?;
-    let words = [Word::of(rt.alloc(), b"run")?, Word::of(rt.alloc(), &text)?];
-    let Err(error) = read_words(rt.alloc(), &words) else {
-        return Err(Fail::from("taken"));
-    };
+    Ok(text)
+}
+
+#[test]
+fn refuses_the_257th_piece(rt: HostRuntime) -> Result<(), Fail> {
+    let text = too_many_pieces(rt.alloc())?;
     let (cause, place) = (DropCause::Pieces, 512);
-    assert_eq!(rt;
-        error,
-        WordsError::Refused(WordFault {
-            word: 2,
-            cause: WordCause::Drop { cause, place }
-        })
-    );
+    let wanted = WordFault {
+        word: 2,
+        cause: WordCause::Drop { cause, place },
+    };
+    assert_eq!(rt; refusal_of_run_with(rt.alloc(), &text), Some(wanted));
     Ok(())
 }
