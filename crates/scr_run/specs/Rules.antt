@@ -24,6 +24,11 @@ rules_of_one (Bucket settings) = bucket.rules settings
 rules_of_one (Knock settings) = knock.rules settings
 rules_of_one (Conn settings) = conn.rules settings
 
+-- the rules of a program that has these, alone or with a second behind it
+abbrev pub rules_with : Rules → Option OneSettings → Rules
+rules_with first None = first
+rules_with first (Some second) = chained first (rules_of_one second)
+
 -- the rules of a table
 abbrev pub rules_of_table : TableSettings → Rules
 rules_of_table settings = rules_of_step (tables.row_of settings) (tables_step.step settings) tables_step.names

@@ -4,7 +4,7 @@ ghost use Rattle.scr_chain.specs.Chains.{chained};
 ghost use Rattle.scr_pcap.specs.Generated.{generated_records};
 ghost use Rattle.scr_words.specs.Operands.{makes_load, runs};
 ghost use Rattle.scr_run.specs.Codes.{is_code};
-ghost use Rattle.scr_run.specs.Rules.{ruled_by, rules_of_one, code_of_one, stream_code};
+ghost use Rattle.scr_run.specs.Rules.{ruled_by, rules_of_one, rules_with, code_of_one, stream_code};
 ghost use Rattle.scr_run.specs.RunReport.{shaped_text};
 ghost use Rattle.scr_run.specs.Asked.{IsBySettings};
 ghost use Rattle.scr_run.specs.Ends.{Ends, IsText, ended};
@@ -19,7 +19,7 @@ use crate::status::Status;
 use crate::task::Task;
 use scr_base::{Sink, Source, SureSource};
 use scr_bucket::Bucket;
-use scr_chain::{Chain, ChainSettings};
+use scr_chain::{Chain, ChainSettings, Second};
 use scr_conn::Conn;
 use scr_ddos::Ddos;
 use scr_heavy::Heavy;
@@ -62,9 +62,9 @@ pub(crate) fn run_chosen<S: Source, O: Sink, G: Gate + Sync, R: Threads + Wait +
         hosts,
     };
     match program {
-        ProgramSettings::One(settings) => run_one(host, settings, task, capture, out),
+        ProgramSettings::One(settings) => run_first(host, settings, None, task, capture, out),
         ProgramSettings::Chain { first, second } => {
-            run_pair(host, first, second, task, capture, out)
+            run_first(host, first, Some(second), task, capture, out)
         }
         ProgramSettings::Table(settings) => {
             run_command::<Tables, S, O, G, R>(host, &settings, task, capture, out)
@@ -94,72 +94,60 @@ fn code_of_one(program: &OneSettings) -> u8
     }
 }
 
-// Does the task with one program.
-fn run_one<S: Source, O: Sink, G: Gate + Sync, R: Threads + Wait + Sync>(
-    host: &Host<'_, R, G>,
-    program: OneSettings,
-    task: Task,
-    capture: &mut S,
-    out: &mut O,
-) -> Result<(), Status>
-    ensures ends { Ends (IsByTask (rules_of_one program) task (S.left capture.old)) (makes_load task.command ≡ false) (makes_load task.command ≡ false → IsAtEnd (S.left capture.new))
-        O.written (S.faults capture.old) (S.faults capture.new) O.faults O.wants out.old out.new (ended result) }
-    ensures unread { makes_load task.command ≡ true → capture.new ≡ capture.old }
-{
-    match program {
-        OneSettings::Ddos(settings) => {
-            run_command::<Ddos, S, O, G, R>(host, &settings, task, capture, out)
-        }
-        OneSettings::Heavy(settings) => {
-            run_command::<Heavy, S, O, G, R>(host, &settings, task, capture, out)
-        }
-        OneSettings::Bucket(settings) => {
-            run_command::<Bucket, S, O, G, R>(host, &settings, task, capture, out)
-        }
-        OneSettings::Knock(settings) => {
-            run_command::<Knock, S, O, G, R>(host, &settings, task, capture, out)
-        }
-        OneSettings::Conn(settings) => {
-            run_command::<Conn, S, O, G, R>(host, &settings, task, capture, out)
-        }
-    }
-}
-
-// Does the task with a chain of two programs. The words refuse the tracker as the first, and two of a kind; nothing here
-// depends on that.
-fn run_pair<S: Source, O: Sink, G: Gate + Sync, R: Threads + Wait + Sync>(
+// Does the task with this program, alone or as the first of a chain. The words refuse the tracker as the first, and two of
+// a kind; nothing here depends on that.
+fn run_first<S: Source, O: Sink, G: Gate + Sync, R: Threads + Wait + Sync>(
     host: &Host<'_, R, G>,
     first: OneSettings,
-    second: OneSettings,
+    second: Option<OneSettings>,
     task: Task,
     capture: &mut S,
     out: &mut O,
 ) -> Result<(), Status>
-    ensures ends { Ends (IsByTask (chained (rules_of_one first) (rules_of_one second)) task (S.left capture.old)) (makes_load task.command ≡ false) (makes_load task.command ≡ false → IsAtEnd (S.left capture.new))
+    ensures ends { Ends (IsByTask (rules_with (rules_of_one first) second) task (S.left capture.old)) (makes_load task.command ≡ false) (makes_load task.command ≡ false → IsAtEnd (S.left capture.new))
         O.written (S.faults capture.old) (S.faults capture.new) O.faults O.wants out.old out.new (ended result) }
     ensures unread { makes_load task.command ≡ true → capture.new ≡ capture.old }
 {
     match first {
         OneSettings::Ddos(settings) => {
-            run_behind::<Ddos, S, O, G, R>(host, settings, second, task, capture, out)
+            run_with::<Ddos, S, O, G, R>(host, settings, second, task, capture, out)
         }
         OneSettings::Heavy(settings) => {
-            run_behind::<Heavy, S, O, G, R>(host, settings, second, task, capture, out)
+            run_with::<Heavy, S, O, G, R>(host, settings, second, task, capture, out)
         }
         OneSettings::Bucket(settings) => {
-            run_behind::<Bucket, S, O, G, R>(host, settings, second, task, capture, out)
+            run_with::<Bucket, S, O, G, R>(host, settings, second, task, capture, out)
         }
         OneSettings::Knock(settings) => {
-            run_behind::<Knock, S, O, G, R>(host, settings, second, task, capture, out)
+            run_with::<Knock, S, O, G, R>(host, settings, second, task, capture, out)
         }
         OneSettings::Conn(settings) => {
-            run_behind::<Conn, S, O, G, R>(host, settings, second, task, capture, out)
+            run_with::<Conn, S, O, G, R>(host, settings, second, task, capture, out)
         }
     }
 }
 
+// The same with a program whose settings are known.
+fn run_with<A: Program, S: Source, O: Sink, G: Gate + Sync, R: Threads + Wait + Sync>(
+    host: &Host<'_, R, G>,
+    first: A::Settings,
+    second: Option<OneSettings>,
+    task: Task,
+    capture: &mut S,
+    out: &mut O,
+) -> Result<(), Status>
+    ensures ends { Ends (IsByTask (rules_with (ruled_by (A.row_of first) (A.verdict_after first) (A.count_after first) A.verdict_names) second) task (S.left capture.old)) (makes_load task.command ≡ false) (makes_load task.command ≡ false → IsAtEnd (S.left capture.new))
+        O.written (S.faults capture.old) (S.faults capture.new) O.faults O.wants out.old out.new (ended result) }
+    ensures unread { makes_load task.command ≡ true → capture.new ≡ capture.old }
+{
+    match second {
+        None => run_command::<A, S, O, G, R>(host, &first, task, capture, out),
+        Some(second) => run_before::<A, S, O, G, R>(host, first, second, task, capture, out),
+    }
+}
+
 // Does the task with a chain whose first program is this one.
-fn run_behind<A: Program, S: Source, O: Sink, G: Gate + Sync, R: Threads + Wait + Sync>(
+fn run_before<A: Program, S: Source, O: Sink, G: Gate + Sync, R: Threads + Wait + Sync>(
     host: &Host<'_, R, G>,
     first: A::Settings,
     second: OneSettings,
@@ -172,27 +160,39 @@ fn run_behind<A: Program, S: Source, O: Sink, G: Gate + Sync, R: Threads + Wait 
     ensures unread { makes_load task.command ≡ true → capture.new ≡ capture.old }
 {
     match second {
-        OneSettings::Ddos(second) => {
-            let settings = ChainSettings { first, second };
-            run_command::<Chain<A, Ddos>, S, O, G, R>(host, &settings, task, capture, out)
+        OneSettings::Ddos(settings) => {
+            run_chain::<A, Ddos, S, O, G, R>(host, first, settings, task, capture, out)
         }
-        OneSettings::Heavy(second) => {
-            let settings = ChainSettings { first, second };
-            run_command::<Chain<A, Heavy>, S, O, G, R>(host, &settings, task, capture, out)
+        OneSettings::Heavy(settings) => {
+            run_chain::<A, Heavy, S, O, G, R>(host, first, settings, task, capture, out)
         }
-        OneSettings::Bucket(second) => {
-            let settings = ChainSettings { first, second };
-            run_command::<Chain<A, Bucket>, S, O, G, R>(host, &settings, task, capture, out)
+        OneSettings::Bucket(settings) => {
+            run_chain::<A, Bucket, S, O, G, R>(host, first, settings, task, capture, out)
         }
-        OneSettings::Knock(second) => {
-            let settings = ChainSettings { first, second };
-            run_command::<Chain<A, Knock>, S, O, G, R>(host, &settings, task, capture, out)
+        OneSettings::Knock(settings) => {
+            run_chain::<A, Knock, S, O, G, R>(host, first, settings, task, capture, out)
         }
-        OneSettings::Conn(second) => {
-            let settings = ChainSettings { first, second };
-            run_command::<Chain<A, Conn>, S, O, G, R>(host, &settings, task, capture, out)
+        OneSettings::Conn(settings) => {
+            run_chain::<A, Conn, S, O, G, R>(host, first, settings, task, capture, out)
         }
     }
+}
+
+// Does the task with a chain of these two programs.
+fn run_chain<A: Program, B: Second, S: Source, O: Sink, G: Gate + Sync, R: Threads + Wait + Sync>(
+    host: &Host<'_, R, G>,
+    first: A::Settings,
+    second: B::Settings,
+    task: Task,
+    capture: &mut S,
+    out: &mut O,
+) -> Result<(), Status>
+    ensures ends { Ends (IsByTask (chained (ruled_by (A.row_of first) (A.verdict_after first) (A.count_after first) A.verdict_names) (ruled_by (B.row_of second) (B.verdict_after second) (B.count_after second) B.verdict_names)) task (S.left capture.old)) (makes_load task.command ≡ false) (makes_load task.command ≡ false → IsAtEnd (S.left capture.new))
+        O.written (S.faults capture.old) (S.faults capture.new) O.faults O.wants out.old out.new (ended result) }
+    ensures unread { makes_load task.command ≡ true → capture.new ≡ capture.old }
+{
+    let settings = ChainSettings { first, second };
+    run_command::<Chain<A, B>, S, O, G, R>(host, &settings, task, capture, out)
 }
 
 // Does the task with this program.

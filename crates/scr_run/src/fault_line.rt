@@ -1,14 +1,22 @@
-ghost use Rattle.std.specs.Prelude.{◌≡◌};
+ghost use Rattle.std.specs.Prelude.{◌≡◌, ◌≢◌, ◌++◌, codes, decimal};
+ghost use Rattle.std.specs.List.{flat_map};
 ghost use Rattle.scr_base.specs.Causes.{CountsError};
+ghost use Rattle.scr_base.specs.Pieces.{text_of};
 ghost use Rattle.scr_base.specs.Streams.{WritesText, BatchesText};
-ghost use Rattle.scr_run.specs.FaultLines.{block_line, blocks_line, captured_line, short_record_line, long_record_line, capture_line, too_many_blocks_line, too_many_line, fault_line, want_code, want_line, IsTold};
+ghost use Rattle.scr_words.specs.declared.word_fault.WordFault.{WordFault};
+ghost use Rattle.scr_run.specs.FaultLines.{blocks_line, capture_line, fault_line, want_code, want_line, IsTold};
 
 use crate::status::{Status, WANT_CODE};
-use crate::stream_line::put_stream_line;
+use crate::stream_line::stream_line;
 use scr_base::{Batch, Piece, Sink, SinkError, put_all};
 use scr_pcap::CaptureError;
 use scr_pcapng::NgError;
 use scr_words::put_word_line;
+
+/// The pieces of a line. Those that it doesn't need have no bytes.
+pub(crate) type Line = [Piece<'static>; 5];
+
+const BLOCK: &[u8] = b"scr: block ";
 
 const WANT_LINE: &[u8] = b"scr: out of memory\n";
 
@@ -41,167 +49,106 @@ fn put_fault_line<E: Sink>(batch: &mut Batch, err: &mut E, status: &Status) -> R
     ensures counts { CountsError E.faults E.wants err.old err.new result }
 {
     match status {
-        Status::Done => batch.put(err, b""),
         Status::Words(fault) => put_word_line(batch, err, fault),
-        Status::Capture(error) => put_capture_line(batch, err, error),
-        Status::ReadFault => batch.put(err, b"scr: read fault\n"),
-        Status::WriteFault => batch.put(err, b"scr: write fault\n"),
-        Status::OutOfMemory(_) => batch.put(err, WANT_LINE),
-        Status::TooMany { limit } => put_too_many_line(batch, err, *limit),
-        Status::Pcapng(error) => put_blocks_line(batch, err, error),
-        Status::Stream(error) => put_stream_line(batch, err, error),
+        other => batch.put_pieces(err, &line_of(other)),
     }
 }
 
-fn put_capture_line<E: Sink>(
-    batch: &mut Batch,
-    err: &mut E,
-    error: &CaptureError,
-) -> Result<(), SinkError>
-    ensures text { BatchesText (E.written err.old) (E.written err.new) batch.old batch.new result (capture_line error.now) }
-    ensures counts { CountsError E.faults E.wants err.old err.new result }
+// The line of a status, but for that of words.
+fn line_of(status: &Status) -> Line
+    requires { (fault : WordFault) → status.now ≢ Status.Words fault }
+    ensures { flat_map text_of result ≡ fault_line status.now }
+{
+    match status {
+        Status::Done => text_line(b""),
+        Status::Words(_) => unreachable!(),
+        Status::Capture(error) => capture_line(error),
+        Status::ReadFault => text_line(b"scr: read fault\n"),
+        Status::WriteFault => text_line(b"scr: write fault\n"),
+        Status::OutOfMemory(_) => text_line(WANT_LINE),
+        Status::TooMany { limit } => numbered_line(b"scr: more than ", *limit, b" records", b""),
+        Status::Pcapng(error) => blocks_line(error),
+        Status::Stream(error) => stream_line(error),
+    }
+}
+
+fn capture_line(error: &CaptureError) -> Line
+    ensures { flat_map text_of result ≡ capture_line error.now }
 {
     match error {
-        CaptureError::ShortHeader => batch.put(err, b"scr: header: ShortHeader\n"),
-        CaptureError::Magic => batch.put(err, b"scr: header: Magic\n"),
-        CaptureError::Version => batch.put(err, b"scr: header: Version\n"),
-        CaptureError::LinkType => batch.put(err, b"scr: header: LinkType\n"),
-        CaptureError::ShortRecord { number } => put_short_record(batch, err, *number),
-        CaptureError::LongRecord { number, length } => {
-            put_long_record(batch, err, *number, *length)
+        CaptureError::ShortHeader => text_line(b"scr: header: ShortHeader\n"),
+        CaptureError::Magic => text_line(b"scr: header: Magic\n"),
+        CaptureError::Version => text_line(b"scr: header: Version\n"),
+        CaptureError::LinkType => text_line(b"scr: header: LinkType\n"),
+        CaptureError::ShortRecord { number } => {
+            numbered_line(b"scr: record ", *number, b": ", b"ShortRecord")
         }
-        CaptureError::TooMany { limit } => put_too_many_line(batch, err, *limit),
-        CaptureError::ReadFault => batch.put(err, b"scr: read fault\n"),
+        CaptureError::LongRecord { number, length } => {
+            length_line(b"scr: record ", *number, b": LongRecord ", *length)
+        }
+        CaptureError::TooMany { limit } => {
+            numbered_line(b"scr: more than ", *limit, b" records", b"")
+        }
+        CaptureError::ReadFault => text_line(b"scr: read fault\n"),
     }
 }
 
-fn put_short_record<E: Sink>(batch: &mut Batch, err: &mut E, number: u32) -> Result<(), SinkError>
-    ensures text { BatchesText (E.written err.old) (E.written err.new) batch.old batch.new result (short_record_line number) }
-    ensures counts { CountsError E.faults E.wants err.old err.new result }
-{
-    batch.put_pieces(
-        err,
-        &[
-            Piece::Text(b"scr: record "),
-            Piece::Number(u64::from(number)),
-            Piece::Text(b": ShortRecord\n"),
-        ],
-    )
-}
-
-fn put_long_record<E: Sink>(
-    batch: &mut Batch,
-    err: &mut E,
-    number: u32,
-    length: u32,
-) -> Result<(), SinkError>
-    ensures text { BatchesText (E.written err.old) (E.written err.new) batch.old batch.new result (long_record_line number length) }
-    ensures counts { CountsError E.faults E.wants err.old err.new result }
-{
-    batch.put_pieces(
-        err,
-        &[
-            Piece::Text(b"scr: record "),
-            Piece::Number(u64::from(number)),
-            Piece::Text(b": LongRecord "),
-            Piece::Number(u64::from(length)),
-            Piece::Text(b"\n"),
-        ],
-    )
-}
-
-fn put_too_many_line<E: Sink>(batch: &mut Batch, err: &mut E, limit: u32) -> Result<(), SinkError>
-    ensures text { BatchesText (E.written err.old) (E.written err.new) batch.old batch.new result (too_many_line limit) }
-    ensures counts { CountsError E.faults E.wants err.old err.new result }
-{
-    batch.put_pieces(
-        err,
-        &[
-            Piece::Text(b"scr: more than "),
-            Piece::Number(u64::from(limit)),
-            Piece::Text(b" records\n"),
-        ],
-    )
-}
-
-fn put_blocks_line<E: Sink>(
-    batch: &mut Batch,
-    err: &mut E,
-    error: &NgError,
-) -> Result<(), SinkError>
-    ensures text { BatchesText (E.written err.old) (E.written err.new) batch.old batch.new result (blocks_line error.now) }
-    ensures counts { CountsError E.faults E.wants err.old err.new result }
+fn blocks_line(error: &NgError) -> Line
+    ensures { flat_map text_of result ≡ blocks_line error.now }
 {
     match error {
-        NgError::Cut { block } => put_block_line(batch, err, *block, b"Cut"),
-        NgError::Mark { block } => put_block_line(batch, err, *block, b"Mark"),
-        NgError::Length { block } => put_block_line(batch, err, *block, b"Length"),
-        NgError::Version { block } => put_block_line(batch, err, *block, b"Version"),
-        NgError::Resolution { block } => put_block_line(batch, err, *block, b"Resolution"),
-        NgError::Interface { block } => put_block_line(batch, err, *block, b"Interface"),
-        NgError::Captured { block, length } => put_captured(batch, err, *block, *length),
-        NgError::LinkType { block } => put_block_line(batch, err, *block, b"LinkType"),
-        NgError::TooMany { limit } => put_too_many_line(batch, err, *limit),
-        NgError::TooManyBlocks { limit } => put_too_many_blocks_line(batch, err, *limit),
+        NgError::Cut { block } => numbered_line(BLOCK, *block, b": ", b"Cut"),
+        NgError::Mark { block } => numbered_line(BLOCK, *block, b": ", b"Mark"),
+        NgError::Length { block } => numbered_line(BLOCK, *block, b": ", b"Length"),
+        NgError::Version { block } => numbered_line(BLOCK, *block, b": ", b"Version"),
+        NgError::Resolution { block } => numbered_line(BLOCK, *block, b": ", b"Resolution"),
+        NgError::Interface { block } => numbered_line(BLOCK, *block, b": ", b"Interface"),
+        NgError::Captured { block, length } => {
+            length_line(BLOCK, *block, b": Captured ", *length)
+        }
+        NgError::LinkType { block } => numbered_line(BLOCK, *block, b": ", b"LinkType"),
+        NgError::TooMany { limit } => numbered_line(b"scr: more than ", *limit, b" records", b""),
+        NgError::TooManyBlocks { limit } => {
+            numbered_line(b"scr: more than ", *limit, b" blocks", b"")
+        }
     }
 }
 
-fn put_block_line<E: Sink>(
-    batch: &mut Batch,
-    err: &mut E,
-    block: u32,
-    cause: &[u8],
-) -> Result<(), SinkError>
-    ensures text { BatchesText (E.written err.old) (E.written err.new) batch.old batch.new result (block_line block cause.now) }
-    ensures counts { CountsError E.faults E.wants err.old err.new result }
+/// A line that is known whole.
+pub(crate) fn text_line(text: &'static [u8]) -> Line
+    ensures { flat_map text_of result ≡ text.now }
 {
-    batch.put_pieces(
-        err,
-        &[
-            Piece::Text(b"scr: block "),
-            Piece::Number(u64::from(block)),
-            Piece::Text(b": "),
-            Piece::Text(cause),
-            Piece::Text(b"\n"),
-        ],
-    )
+    let nothing = Piece::Text(b"");
+    [nothing, nothing, nothing, nothing, Piece::Text(text)]
 }
 
-fn put_captured<E: Sink>(
-    batch: &mut Batch,
-    err: &mut E,
-    block: u32,
-    length: u32,
-) -> Result<(), SinkError>
-    ensures text { BatchesText (E.written err.old) (E.written err.new) batch.old batch.new result (captured_line block length) }
-    ensures counts { CountsError E.faults E.wants err.old err.new result }
+/// A line with a number, which has no zeros in front, and a cause.
+pub(crate) fn numbered_line(
+    front: &'static [u8],
+    number: u32,
+    middle: &'static [u8],
+    cause: &'static [u8],
+) -> Line
+    ensures { flat_map text_of result ≡ front.now ++ (decimal number ++ (middle.now ++ (cause.now ++ codes "\n"))) }
 {
-    batch.put_pieces(
-        err,
-        &[
-            Piece::Text(b"scr: block "),
-            Piece::Number(u64::from(block)),
-            Piece::Text(b": Captured "),
-            Piece::Number(u64::from(length)),
-            Piece::Text(b"\n"),
-        ],
-    )
+    [
+        Piece::Text(front),
+        Piece::Number(u64::from(number)),
+        Piece::Text(middle),
+        Piece::Text(cause),
+        Piece::Text(b"\n"),
+    ]
 }
 
-fn put_too_many_blocks_line<E: Sink>(
-    batch: &mut Batch,
-    err: &mut E,
-    limit: u32,
-) -> Result<(), SinkError>
-    ensures text { BatchesText (E.written err.old) (E.written err.new) batch.old batch.new result (too_many_blocks_line limit) }
-    ensures counts { CountsError E.faults E.wants err.old err.new result }
+// A line with two numbers.
+fn length_line(front: &'static [u8], number: u32, middle: &'static [u8], length: u32) -> Line
+    ensures { flat_map text_of result ≡ front.now ++ (decimal number ++ (middle.now ++ (decimal length ++ codes "\n"))) }
 {
-    batch.put_pieces(
-        err,
-        &[
-            Piece::Text(b"scr: more than "),
-            Piece::Number(u64::from(limit)),
-            Piece::Text(b" blocks\n"),
-        ],
-    )
+    [
+        Piece::Text(front),
+        Piece::Number(u64::from(number)),
+        Piece::Text(middle),
+        Piece::Number(u64::from(length)),
+        Piece::Text(b"\n"),
+    ]
 }
