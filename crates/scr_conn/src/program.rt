@@ -81,6 +81,7 @@ impl Keyed for Conn {
     }
 
     // A segment that isn't valid leaves the table alone.
+    #[inline(always)]
     fn enter(
         settings: &ConnSettings,
         table: &mut FlowTable<Connection, Entry>,

@@ -33,10 +33,10 @@ pub enum Progress {
 /// What stands in front of a record's bytes.
 #[derive(Clone, Copy, Debug, PartialEq, Eq)]
 pub struct RecordInfo {
-    /// The record's number, from 1.
-    pub number: u32,
     /// Its time in microseconds.
     pub time: u64,
+    /// The record's number, from 1.
+    pub number: u32,
     /// Its captured length in bytes.
     pub length: u32,
 }
