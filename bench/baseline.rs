@@ -1,7 +1,7 @@
 //! The same work as scr's in plain Rust, std only, to measure against. Nothing of it is proved.
 //!
 //! `run program=ddos threshold=N`, `plain program=NAME` and `crew program=NAME cores=K` read a capture on standard input, and
-//! write the report; `step PROGRAM FLOWS PACKETS`, `lane KIND FRAMES` and `log CORES ROWS` are the work of scr_bench.
+//! write the report; `spray program=conn cores=K` writes the stream of one; `step PROGRAM FLOWS PACKETS`, `lane KIND FRAMES` and `log CORES ROWS` are the work of scr_bench.
 
 mod captures;
 mod crew;
@@ -15,6 +15,7 @@ mod report;
 mod ring;
 mod rows;
 mod shared;
+mod sprayed;
 mod steps;
 mod table;
 mod traffic;
@@ -40,6 +41,7 @@ fn run_words() -> Result<(), Fault> {
         "run" => plain::run_counted(operands, input()?, out()?),
         "plain" => plain::run_plain(operands, input()?, out()?),
         "crew" => crew::run_crew(operands, input()?, out()?),
+        "spray" => sprayed::run_spray(operands, input()?, out()?),
         "step" => {
             println!("{}", traffic::checksum_of(operands).ok_or(Fault::Words)?);
             Ok(())

@@ -11,14 +11,22 @@ const ROW: usize = 56;
 pub type Words = [u64; 7];
 
 pub fn encode(kind: u8, number: u32, rows: &[Words]) -> Vec<u8> {
-    let mut bytes = vec![0; HEADER + ROW * rows.len()];
+    let mut bytes = Vec::with_capacity(HEADER + ROW * rows.len());
+    encode_into(&mut bytes, kind, number, rows);
+    bytes
+}
+
+/// Appends a message.
+pub fn encode_into(to: &mut Vec<u8>, kind: u8, number: u32, rows: &[Words]) {
+    let start = to.len();
+    to.resize(start + HEADER + ROW * rows.len(), 0);
+    let bytes = &mut to[start..];
     bytes[..4].copy_from_slice(&[0x53, 0x43, 2, kind]);
     bytes[4..8].copy_from_slice(&number.to_be_bytes());
     bytes[8..HEADER].copy_from_slice(&(rows.len() as u16).to_be_bytes());
     for (place, word) in bytes[HEADER..].chunks_exact_mut(8).zip(rows.iter().flatten()) {
         place.copy_from_slice(&word.to_be_bytes());
     }
-    bytes
 }
 
 /// A message, whose rows are read where they lie.
