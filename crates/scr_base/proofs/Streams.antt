@@ -1,5 +1,5 @@
 -- What a sink gains by one write after another.
-use Rattle.std.proofs.Common.{◌≡◌, ◌<◌, ℕ, arith, length, length-append, inl, inr, OnErr, List, [], ◌++◌, take, drop, Option, Some, None, Result, Ok, Err, sym, ap, ◌∙◌, append_assoc, subst}
+use Rattle.std.proofs.Common.{◌≡◌, ◌<◌, ℕ, arith, length, length-append, inr, OnErr, List, [], ◌++◌, take, drop, Option, Some, None, Result, Ok, Err, sym, ap, ◌∙◌, append_assoc, subst}
 use Rattle.std.proofs.lemmas.List.{append-nil, take-append-drop}
 use Rattle.std.specs.Io.KnownBytes.{Appends, Keeps}
 use Rattle.scr_base.specs.Streams.{AppendsPrefix, StopsWithin, Passes, WritesText, BatchesText, HoldsOrWrote}

@@ -1,5 +1,5 @@
 -- Connections that are the same are one. (What shows a law of an `impl` has to stand in its crate's own specs/.)
-use Rattle.std.specs.Prelude.{◌≡◌, ℕ, true, ◌&&◌, ◌==◌}
+use Rattle.std.specs.Prelude.{◌≡◌, ℕ, true, ◌==◌}
 use Rattle.std.proofs.Common.{ap, ◌∙◌}
 use Rattle.std.proofs.lemmas.Bool.{eqb-true}
 use Rattle.scr_program.specs.Keys.{is_same_address}

@@ -1,5 +1,5 @@
 -- The door: it drops the packets of a source until that has knocked at three ports in turn.
-use Rattle.std.specs.Prelude.{ℕ, List, Option, Some, unwrap_or}
+use Rattle.std.specs.Prelude.{List, Option, Some, unwrap_or}
 use Rattle.scr_base.specs.declared.row.Row.{Row}
 use Rattle.scr_base.specs.declared.row.Verdict.{Verdict}
 use Rattle.scr_program.specs.declared.fields.Address.{Address}

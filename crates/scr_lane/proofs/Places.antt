@@ -1,13 +1,12 @@
 -- How many messages a lane has at most.
-use Rattle.std.proofs.Common.{◌≡◌, ℕ, zero, suc, ◌+◌, ◌-◌, ◌*◌, ◌<◌, ◌≤◌, Bool, true, false, cond, ◌&&◌, List, [], ◌∷◌, ◌++◌, length, sym, ap, ◌∙◌, subst, arith, eqb, leb}
+use Rattle.std.proofs.Common.{◌≡◌, ℕ, zero, suc, ◌+◌, ◌-◌, ◌*◌, ◌≤◌, Bool, true, false, cond, ◌&&◌, [], ◌∷◌, length, ap, ◌∙◌, arith, eqb, leb}
 use Rattle.std.specs.List.{flat_map, range_with_len}
 use Rattle.std.proofs.Math.Nat.{mul-le-mul}
 use Rattle.std.proofs.lemmas.List.{length-append, length-map}
 use Rattle.scr_plan.specs.Link.{repeats}
 use Rattle.scr_plan.specs.Plan.{Plan, IsPlan, frame_count}
-use Rattle.scr_plan.specs.Order.{Item, Beacon, Frame, sends, core_number, comes_at, frame_at, frames_at, has_beacon, beacon_at, items_at}
+use Rattle.scr_plan.specs.Order.{Beacon, Frame, sends, core_number, comes_at, frame_at, frames_at, has_beacon, beacon_at, items_at}
 use Rattle.scr_plan.proofs.FromOne.{lists-suc}
-use Rattle.scr_wire.specs.declared.message.Message.{Message}
 use Rattle.scr_wire.specs.Lane.{message_of, added, lane_so_far, last_step, lane}
 use Rattle.scr_wire.proofs.LaneGrows.{lane_so_far-zero, lane_so_far-suc, length-lane}
 

@@ -1,5 +1,5 @@
 -- How many bytes were taken, by one read after another.
-use Rattle.std.proofs.Common.{◌≡◌, ◌≢◌, ℕ, ◌+◌, ◌*◌, ◌≤◌, ◌<◌, true, false, Bool, List, [], ◌++◌, length, Option, Some, None, Result, Ok, Err, IfSome, ◌==◌, nat_lt, refl, sym, ap, ◌∙◌, arith, rules, tests, if◌then◌else◌}
+use Rattle.std.proofs.Common.{◌≡◌, ◌≢◌, ℕ, ◌+◌, ◌≤◌, ◌<◌, false, List, [], ◌++◌, length, Option, Some, None, Result, Ok, Err, IfSome, ◌==◌, nat_lt, refl, ap, ◌∙◌, arith, rules, tests, if◌then◌else◌}
 use Rattle.std.proofs.lemmas.List.{length-append}
 use Rattle.std.specs.Io.KnownBytes.{Consumes}
 use Rattle.scr_pcap.specs.declared.error.CaptureError.{CaptureError}
@@ -8,7 +8,7 @@ use Rattle.scr_pcap.specs.declared.format.Format.{Format}
 use Rattle.scr_pcap.specs.Records.{Record, RECORDS, CAPTURED, TakesRecord, captured_in}
 use Rattle.scr_pcap.specs.State.{ReaderState, reach}
 use Rattle.scr_pcap.specs.declared.reader.Progress.TheVariants.{Reading, Refused}
-use Rattle.scr_pcap.specs.Taken.{GivesAtMost, GivesFewer, Takes, next_size}
+use Rattle.scr_pcap.specs.Taken.{GivesAtMost, Takes, next_size}
 use Rattle.scr_pcap.proofs.FirstBytes.{captured_in-append}
 use Rattle.scr_pcap.proofs.Taking.{Consumes-then}
 use Rattle.scr_pcap.proofs.Told.{IsHeaderTaken}

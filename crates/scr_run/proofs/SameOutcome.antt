@@ -1,12 +1,11 @@
 -- Plans of the same run have the same outcome: it is made of nothing else.
-use Rattle.std.proofs.Common.{◌≡◌, ℕ, ◌-◌, Bool, true, false, cond, ◌&&◌, not, List, map, Option, Some, None, refl, sym, ap, ◌∙◌, filter_map, count_by, ◌==◌}
+use Rattle.std.proofs.Common.{◌≡◌, ℕ, ◌-◌, Bool, true, false, cond, ◌&&◌, not, List, map, None, refl, ap, ◌∙◌, filter_map, count_by, ◌==◌}
 use Rattle.std.specs.List.{range_with_len, list_any}
 use Rattle.std.specs.Option.{option_map}
 use Rattle.scr_base.specs.declared.row.Row.{Row}
 use Rattle.scr_base.specs.declared.row.Verdict.{Verdict}
-use Rattle.scr_plan.specs.declared.counting.CoreCounts.{CoreCounts}
 use Rattle.scr_plan.specs.declared.given.Given.{Given}
-use Rattle.scr_plan.specs.Counts.{delivered_count, kept_count, plan_counts, counts_up_to}
+use Rattle.scr_plan.specs.Counts.{delivered_count, kept_count, plan_counts}
 use Rattle.scr_plan.specs.Delivered.{core_number, delivers, delivers_to}
 use Rattle.scr_plan.specs.Kept.{carries, carries_to, keeps}
 use Rattle.scr_plan.specs.Plan.{Plan, frame_count, row_of_packet}

@@ -17,7 +17,7 @@ use Rattle.scr_plan.specs.Link.{repeats}
 use Rattle.scr_plan.specs.Plan.{Plan, IsPlan, frame_count}
 use Rattle.scr_plan.specs.declared.link.Fate.{Fate}
 use Rattle.scr_plan.specs.Order as item
-use Rattle.scr_plan.specs.Order.{Item, sends, core_number, comes_at, copies, frame_at, frames_at, has_beacon, beacon_at}
+use Rattle.scr_plan.specs.Order.{Item, sends, core_number, comes_at, frame_at, frames_at, has_beacon, beacon_at}
 use Rattle.scr_plan.proofs.FromOne.{lists-suc}
 use Rattle.scr_plan.proofs.Steps.{sends-within}
 use Rattle.scr_wire.specs.declared.message.Message.{Message}

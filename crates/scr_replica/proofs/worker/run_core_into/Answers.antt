@@ -1,7 +1,6 @@
-use Rattle.std.proofs.Common.{◌≡◌, ℕ, List, sym, ap, subst, ◌∙◌}
+use Rattle.std.proofs.Common.{◌≡◌, ℕ, sym, ap, subst, ◌∙◌}
 use Rattle.scr_log.specs.Passes.{LogsOf, OfCore}
 use Rattle.scr_plan.specs.Plan.{Plan, frame_count}
-use Rattle.scr_plan.specs.declared.given.Given.{Given}
 use Rattle.scr_replica.specs.OneCore.{course}
 use Rattle.scr_replica.proofs.Going.{begins, core-tally, none-awaited, published-all}
 use Rattle.scr_replica.proofs.worker.run_core_into.Goals as goal

@@ -1,9 +1,6 @@
-use Rattle.std.proofs.Common.{◌≡◌, ◌∷◌, List, Some, None, refl, sym, ap, ◌∙◌, subst}
-use Rattle.scr_plan.specs.declared.given.Given.{Given}
+use Rattle.std.proofs.Common.{ap, ◌∙◌, subst}
 use Rattle.scr_log.specs.declared.view.Noted.TheVariants.{Halt}
-use Rattle.scr_log.specs.Passes.{LogsOf, OfCore}
 use Rattle.scr_replica.specs.declared.turn.Turn.{Turn}
-use Rattle.scr_replica.specs.declared.turn.Turn.TheVariants.{Waiting, Ended, Halted, OutOfMemory}
 use Rattle.scr_replica.specs.Replicas.{Replica}
 use Rattle.scr_replica.specs.Turns.{given_in, Answers}
 use Rattle.scr_replica.proofs.Going.{ends-then, came-watched, awaits-on, came-further, goes-without, some-awaited, goes-with}

@@ -1,4 +1,4 @@
-use Rattle.std.proofs.Common.{◌≡◌, ◌≢◌, ◌<◌, ◌≤◌, ℕ, ◌+◌, ◌-◌, ◌*◌, ap, sym, ◌∙◌, subst, arith}
+use Rattle.std.proofs.Common.{◌≡◌, ◌≢◌, ◌<◌, ℕ, ◌+◌, ◌-◌, ◌*◌, ap, sym, ◌∙◌, subst, arith}
 use Rattle.scr_plan.specs.Plan.{Plan}
 use Rattle.scr_log.specs.declared.look.Look.{Look}
 use Rattle.scr_log.specs.declared.view.Noted.TheVariants.{Tag}

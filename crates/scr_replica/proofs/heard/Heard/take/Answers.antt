@@ -1,4 +1,4 @@
-use Rattle.std.proofs.Common.{◌≡◌, Some, refl, sym, subst}
+use Rattle.std.proofs.Common.{◌≡◌, sym, subst}
 use Rattle.scr_replica.specs.Heard.{decided_with}
 use Rattle.scr_replica.proofs.Saying.{hears}
 use Rattle.scr_replica.proofs.heard.Heard.take.Goals as goal
