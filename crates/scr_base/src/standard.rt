@@ -61,6 +61,7 @@ impl<R: Read + Drop> ReaderSource<R> {
     }
 
     // Gives bytes that it holds.
+    #[inline(always)]
     fn give(&mut self, buf: &mut [u8]) -> usize
         ensures count { result ≡ min (length buf.old) (length self.old.held) }
         ensures bytes { self.old.held ≡ take result buf.new ++ self.new.held }
@@ -105,6 +106,7 @@ impl<R: Read + Drop> Source for ReaderSource<R> {
 
     ghost faults = { λ source. source.faults };
 
+    #[inline(always)]
     fn read(&mut self, buf: &mut [u8]) -> Result<usize, Failed>
         ensures bound { IfOk result (λ count. count ≤ length buf.old) }
         ensures bytes { ReadConsumes (prepend_known self.old.held self.old.rest) (prepend_known self.new.held self.new.rest) result buf.new }

@@ -84,7 +84,7 @@ pub(crate) fn ipv4(bytes: &[u8]) -> Option<Packet>
 
 /// The IPv6 packet that the bytes begin with, if its header is whole.
 #[tactic(auto, unfolding(crate::specs::Fields::ipv6))]
-#[inline(never)]
+#[inline(always)]
 pub(crate) fn ipv6(bytes: &[u8]) -> Option<Packet>
     requires { length bytes.now ≤ LONGEST_FRAME }
     ensures { result ≡ ipv6 bytes.now }

@@ -1,6 +1,6 @@
 ghost use Rattle.std.specs.Prelude.{◌≡◌, ◌≤◌, length, IfSome};
 ghost use Rattle.std.specs.Option.{option_map};
-ghost use Rattle.scr_frame.specs.Fields.{ethernet, transport, fields};
+ghost use Rattle.scr_frame.specs.Fields.{ethernet, transport, fields, ipv6, packet_or_other};
 
 use crate::codes::{
     ETHERNET_HEADER, LONGEST_FRAME, TAGGED_HEADER, TCP, TCP_HEADER, TCP_WORDS, TYPE_IPV4,
@@ -32,15 +32,31 @@ pub fn parse(bytes: &[u8]) -> Parsed
     let Some((ethertype, bytes)) = ethernet(bytes) else {
         return OTHER;
     };
-    let packet = match ethertype {
-        TYPE_IPV4 => ipv4(bytes),
-        TYPE_IPV6 => ipv6(bytes),
-        _ => None,
-    };
+    match ethertype {
+        TYPE_IPV4 => of_packet(ipv4(bytes), bytes),
+        TYPE_IPV6 => of_ipv6(bytes),
+        _ => OTHER,
+    }
+}
+
+// The fields of the packet that the bytes begin with, where there is one.
+#[inline(always)]
+fn of_packet(packet: Option<Packet>, bytes: &[u8]) -> Parsed
+    ensures { result ≡ packet_or_other packet bytes.now }
+{
     match packet {
         Some(packet) => transport(&packet, bytes),
         None => OTHER,
     }
+}
+
+// Those of IPv6, which stand apart so that the fields of IPv4 stay in registers.
+#[inline(never)]
+fn of_ipv6(bytes: &[u8]) -> Parsed
+    requires { length bytes.now ≤ LONGEST_FRAME }
+    ensures { result ≡ packet_or_other (ipv6 bytes.now) bytes.now }
+{
+    of_packet(ipv6(bytes), bytes)
 }
 
 /// The type of a frame, and the bytes behind it; none where the frame ends before that.
