@@ -1,4 +1,4 @@
--- One try of the caller to take a verdict.
+-- A try of the caller to take a verdict, or a turn of tries.
 use Rattle.std.specs.Prelude.{◌≡◌, List, [], Result, MatchResult}
 use Rattle.scr_base.specs.declared.row.Row.{Row}
 use Rattle.scr_base.specs.declared.row.Verdict.{Verdict}
@@ -11,7 +11,7 @@ use Rattle.scr_crew.specs.declared.run_stop.RunStop.{RunStop}
 use Rattle.scr_crew.specs.Takings.{Takings, verdicts_from}
 use Rattle.scr_crew.specs.Takers.{IsTaking}
 
--- the taker goes on, and where the try was done no verdict is left; or it has stopped
+-- the taker goes on, and where it is done no verdict is left; or it has stopped
 pub record HasTried {T O : Type 0} (IsToTake : T → (before now : O) → (whole rest : List Given) → Type 0)
     (Stopped : RunStop → (before now : O) → (whole : List Given) → Type 0)
     (verdict_after : List Row → Row → Verdict) (plan : Plan) (before now : O) (takings : Takings) (taker : T) (result : Result Tried RunStop) : Type 0 where

@@ -244,7 +244,8 @@ fn run_on_by_phases<P: Program, T: Taker<O> + Drop, O>(
 }
 
 /// A run of all cores, each in a thread of its own, which gives its verdicts to a taker in the order of the frames while it
-/// goes on. Where it can't come to its end so, it goes on by phases on the calling thread.
+/// goes on. Where it can't come to its end so, it goes on by phases on the calling thread. A core alone goes by phases at once,
+/// since it has nobody to run beside.
 pub fn run_taken<P: Program, G: Gate + Sync, T: Taker<O> + Drop, O, R: Threads + Wait + Sync>(
     rt: &R,
     alloc: Global,
@@ -261,6 +262,9 @@ pub fn run_taken<P: Program, G: Gate + Sync, T: Taker<O> + Drop, O, R: Threads +
     ensures tally { IfOk result (λ it. IsTally (P.count_after settings.now) plan.now it.0) }
     ensures taken { HandsOn T.IsToTake T.Stopped (verdicts (P.verdict_after settings.now) plan.now) out.old out.new (λ it. it.1) (λ it rest. (rest ≡ []) × T.IsOut it.1) result }
 {
+    if plan.cores() == 1 {
+        return run_on_by_phases::<P, T, O>(alloc, settings, plan, taker, out);
+    }
     let (tallies, taker) = run_claimed::<P, G, T, O, R>(
         rt, alloc, settings, plan, ring, gate, taker, out,
     )?;

@@ -20,6 +20,9 @@ use scr_program::Program;
 use scr_wire::Packet;
 use std::sync::Wait;
 
+// So many steps of the feed, or verdicts, at most before the other has its turn.
+const TURN: u32 = 64;
+
 /// What the caller of a run in threads works with.
 #[derive(Drop)]
 pub struct Caller<'a, P: Program> {
@@ -33,7 +36,7 @@ pub struct Caller<'a, P: Program> {
     pub spent: Vec<Consumer<Packet>>,
 }
 
-// What a try to feed, or to take a verdict, has come to.
+// What a try to feed, or to take verdicts, has come to.
 #[derive(Clone, Copy)]
 enum Tried {
     // It got on.
@@ -44,24 +47,17 @@ enum Tried {
     Done,
 }
 
-// One step of the feed. Behind a packet that was sent, one that is spent comes home.
-#[inline]
-fn feed_once<R: Wait>(
-    rt: &R,
-    feed: &mut Feed<'_>,
-    spent: &mut [Consumer<Packet>],
-) -> Result<Tried, OutOfMemory> {
-    match feed.step(rt)? {
-        Step::Taken => Ok(Tried::Moved),
-        Step::Sent { core } => {
-            if let Some(home) = spent.get_mut(core as usize) {
-                take_home(home);
-            }
-            Ok(Tried::Moved)
+// Feeds the lanes for a turn, or until a lane is full, or all is fed.
+fn feed_turn<R: Wait>(rt: &R, feed: &mut Feed<'_>) -> Result<Tried, OutOfMemory> {
+    let mut tried = Tried::Waits;
+    for _ in 0..TURN {
+        match feed.step(rt)? {
+            Step::Taken | Step::Sent { .. } => tried = Tried::Moved,
+            Step::Full { .. } => return Ok(tried),
+            Step::Done => return Ok(Tried::Done),
         }
-        Step::Full { .. } => Ok(Tried::Waits),
-        Step::Done => Ok(Tried::Done),
     }
+    Ok(tried)
 }
 
 // Gives the taker the next verdict, where it is there.
@@ -88,8 +84,31 @@ fn take_once<P: Program, T: Taker<O>, O, R: Wait>(
     }
 }
 
+// Gives the taker verdicts for a turn, or until the next isn't there, or all are taken.
+fn take_turn<P: Program, T: Taker<O>, O, R: Wait>(
+    rt: &R,
+    plan: &RunPlan,
+    taking: &mut Taking<P>,
+    taker: &mut T,
+    out: &mut O,
+) -> Result<Tried, RunStop>
+    requires { (verdict_after : List Row → Row → Verdict) × (before : O) × IsTaking T.IsToTake verdict_after plan.now before out.old taking.old taker.old }
+    ensures { (verdict_after : List Row → Row → Verdict) (before : O) → IsTaking T.IsToTake verdict_after plan.now before out.old taking.old taker.old
+        → HasTried T.IsToTake T.Stopped verdict_after plan.now before out.new taking.new taker.new result }
+{
+    let mut tried = Tried::Waits;
+    for _ in 0..TURN {
+        match take_once::<P, T, O, R>(rt, plan, taking, taker, out)? {
+            Tried::Moved => tried = Tried::Moved,
+            Tried::Waits => return Ok(tried),
+            Tried::Done => return Ok(Tried::Done),
+        }
+    }
+    Ok(tried)
+}
+
 /// Feeds the lanes and gives the verdicts to a taker, by turns, until all is fed and all are taken. False where the run was
-/// halted before. It pauses where a lane is full and the next verdict isn't there yet.
+/// halted before. It pauses where a lane is full and the next verdict isn't there yet. Spent packets come home behind each turn.
 pub fn feed_and_take<P: Program, T: Taker<O>, O, R: Wait>(
     rt: &R,
     plan: &RunPlan,
@@ -106,8 +125,9 @@ pub fn feed_and_take<P: Program, T: Taker<O>, O, R: Wait>(
 {
     let pause = Backoff::new();
     for _ in rt.forever() {
-        let fed = feed_once(rt, &mut caller.feed, &mut caller.spent)?;
-        let took = take_once::<P, T, O, R>(rt, plan, &mut caller.taking, taker, out)?;
+        let fed = feed_turn(rt, &mut caller.feed)?;
+        let took = take_turn::<P, T, O, R>(rt, plan, &mut caller.taking, taker, out)?;
+        take_home(&mut caller.spent);
         match (fed, took) {
             (Tried::Done, Tried::Done) => return Ok(true),
             (Tried::Moved, _) | (_, Tried::Moved) => pause.reset(),

@@ -53,7 +53,13 @@ impl<O: Outlet + Drop> Outlet for Returning<O> {
     }
 }
 
-/// Takes a packet that has come home, where there is one, and drops it.
-pub fn take_home(spent: &mut Consumer<Packet>) {
-    let _packet = spent.pop();
+/// Takes the packets that have come home by these ends, and drops them.
+pub fn take_home(spent: &mut [Consumer<Packet>]) {
+    for home in spent {
+        for _ in 0..CAPACITY {
+            if home.pop().is_err() {
+                break;
+            }
+        }
+    }
 }

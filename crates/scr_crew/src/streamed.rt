@@ -32,7 +32,8 @@ pub struct Streamed {
 }
 
 /// A run as [`run_threads`](crate::run_threads) makes it, which writes the lines of its verdicts in the order of the frames
-/// while it goes on. At every moment `out` has gained a front of these lines, and all of them at `Ok`.
+/// while it goes on, or behind it where it goes by phases. At every moment `out` has gained a front of these lines, and all of
+/// them at `Ok`.
 ///
 /// # Errors
 /// Where a write failed, or there was no memory. `out` has gained a front of the lines then.

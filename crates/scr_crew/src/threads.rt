@@ -16,7 +16,7 @@ use std::sync::Wait;
 use std::thread::Threads;
 
 /// A run of all cores, each in a thread of its own, with so many slots in the log of each core. The caller feeds their
-/// lanes. Where a thread can't be started, the run goes by phases on the calling thread.
+/// lanes. Where a thread can't be started, or there is one core alone, the run goes by phases on the calling thread.
 pub fn run_threads<P: Program, G: Gate + Sync, R: Threads + Wait + Sync>(
     rt: &R,
     alloc: Global,

@@ -32,13 +32,15 @@ impl<K: Eq + Hash + Copy + Drop, V: Copy + Drop> Model for Flows<K, V> {
 }
 
 impl<K: Eq + Hash + Copy + Drop, V: Copy + Drop> Flows<K, V> {
-    /// No flows, and at most so many. Their memory is taken at once.
+    /// No flows, and at most so many. Their memory is taken at once, and that for one more, so that there is room in full
+    /// flows too: a new one is put in before the one that was used longest ago goes.
     pub fn make(alloc: Global, most: u32) -> Result<Self, OutOfMemory>
         requires { 1 ≤ most }
-        ensures { IfOk result (λ flows. (flows.most ≡ most) × (list_of flows ≡ [])) }
+        ensures flows { IfOk result (λ flows. (flows.most ≡ most) × (list_of flows ≡ [])) }
+        ensures room { IfOk result (λ flows. flows.most < flows.spare) }
     {
         Ok(Flows {
-            map: IndexMap::with_capacity(alloc, most as usize)?,
+            map: IndexMap::with_capacity(alloc, most as usize + 1)?,
             order: Order::new(alloc, most)?,
             most,
         })
@@ -107,6 +109,15 @@ impl<K: Eq + Hash + Copy + Drop, V: Copy + Drop> Flows<K, V> {
             self.order.take_out(place);
             self.order.put_first(place);
         }
+    }
+
+    /// Whether memory was taken for one more key.
+    #[inline(always)]
+    pub fn has_room(&self) -> bool
+        ensures room { result ≡ true → 0 < self.now.spare }
+        ensures none { 0 < self.now.spare → result ≡ true }
+    {
+        self.map.len() < self.map.capacity()
     }
 
     /// Takes the memory that one more key may need.

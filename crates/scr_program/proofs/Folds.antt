@@ -27,7 +27,7 @@ module _ {Flow : Type 0} (step : List Flow → Row → List Flow × Verdict) whe
 -- the clauses of a program whose state is a flow table, from its step on the table's list
 module _ {K V : Type 0} (step : List (K × V) → Row → List (K × V) × Verdict) (flows : ℕ) where
   -- a new table stands for no rows
-  pub Stands-fresh : {E : Type 0} (result : Result (Table K V) E) → IfOk result (λ table. table ≡ record { flows = flows; list = []; ready = None }) → IfOk result (λ table. Stands step flows table [])
+  pub Stands-fresh : {E : Type 0} (result : Result (Table K V) E) → IfOk result (λ table. table ≡ record { flows = flows; list = []; ready = None; spare = table.spare }) → IfOk result (λ table. Stands step flows table [])
   Stands-fresh (Ok table) is = (ap (λ (t : Table K V). t.flows) is, ap (λ (t : Table K V). t.list) is ∙ sym (flows_after-empty step))
   Stands-fresh (Err e) is = tt
 

@@ -1,5 +1,5 @@
 -- A program that keeps an entry for each key, as a source or a flow, of the packets that it looks at.
-use Rattle.std.specs.Prelude.{◌≡◌, ℕ, ◌⊎◌, Bool, false, not, List, Option, Some, if◌then◌else◌}
+use Rattle.std.specs.Prelude.{◌≡◌, ◌<◌, ℕ, ◌⊎◌, Bool, false, not, List, Option, Some, if◌then◌else◌}
 use Rattle.std.specs.Map.{lookup}
 use Rattle.scr_base.specs.declared.row.Row.{Row}
 use Rattle.scr_base.specs.declared.row.Verdict.{Verdict}
@@ -27,6 +27,6 @@ EntersAs same outcome old new key fields verdict =
     let after = outcome (lookup (same key) old.list) fields in
     (new.list ≡ entered_list same old.flows old.list key after.0) × (verdict ≡ after.1)
 
--- a step with this row needs no more memory: the row isn't looked at, or its key is ready
+-- a step with this row needs no more memory: the row isn't looked at, or its key is ready, or there is room for any key
 abbrev pub IsReadyFor : {K V : Type 0} → (ℕ → Bool) → (Fields → K) → Table K V → Row → Type 0
-IsReadyFor is_looked_at key_of table row = (is_looked_at (kind_in row) ≡ false) ⊎ (table.ready ≡ Some (key_of (unpacked row)))
+IsReadyFor is_looked_at key_of table row = (is_looked_at (kind_in row) ≡ false) ⊎ ((table.ready ≡ Some (key_of (unpacked row))) ⊎ (0 < table.spare))

@@ -1,4 +1,4 @@
-ghost use Rattle.std.specs.Prelude.{◌≡◌, ◌≤◌, ◌<◌, ℕ, Bool, Option, Some, List, length, map, slice_get, IfOk, IsOk, OnErr};
+ghost use Rattle.std.specs.Prelude.{◌≡◌, ◌≤◌, ◌<◌, ℕ, Bool, Option, Some, List, length, map, slice_get, IfOk, IsOk, OnOk, OnErr};
 ghost use Rattle.scr_base.specs.declared.row.Row.{Row};
 ghost use Rattle.scr_base.specs.declared.row.Verdict.{Verdict};
 ghost use Rattle.scr_program.specs.declared.fields.Fields.{Fields};
@@ -63,7 +63,7 @@ pub trait Keyed: Sync {
         ensures { result ≡ key_of fields.now };
 
     /// Takes a packet with this key and these fields: gives the key the entry that it leaves, and answers its verdict. At
-    /// `Err` the entries are as they were.
+    /// `Err` the entries are as they were; there is none where the key is ready or there is room.
     fn enter(
         settings: &Self::Settings,
         table: &mut FlowTable<Self::Key, Self::Entry>,
@@ -73,7 +73,29 @@ pub trait Keyed: Sync {
         ensures entered { IfOk result (λ verdict. EntersAs Self.Key.eq (outcome settings.now) table.old table.new key.now fields.now verdict) }
         ensures err { OnErr result (table.new.list ≡ table.old.list) }
         ensures flows { table.new.flows ≡ table.old.flows }
-        ensures succeeds { table.old.ready ≡ Some key.now → IsOk result };
+        ensures succeeds { table.old.ready ≡ Some key.now → IsOk result }
+        ensures room_succeeds { 0 < table.old.spare → IsOk result };
+
+    /// Makes the key of a row ready, in a table that has no room for any key. It stands apart, so that what a step mostly
+    /// does stays small; no program gives another.
+    #[cold]
+    #[inline(never)]
+    fn make_ready(
+        table: &mut FlowTable<Self::Key, Self::Entry>,
+        row: &Row,
+    ) -> Result<(), OutOfMemory>
+        ensures list { table.new.list ≡ table.old.list }
+        ensures flows { table.new.flows ≡ table.old.flows }
+        ensures ready { OnOk result (IsReadyFor is_looked_at key_of table.new row.now) }
+        ensures succeeds { IsReadyFor is_looked_at key_of table.old row.now → IsOk result }
+    {
+        let fields = unpack(row);
+        if Self::looks_at(fields.kind) {
+            table.prepare(Self::key(&fields))
+        } else {
+            Ok(())
+        }
+    }
 
     /// The verdict on a packet that isn't looked at.
     fn passed_over() -> Verdict
@@ -130,14 +152,13 @@ impl<P: Keyed> Program for P {
         FlowTable::make(alloc, P::most_flows(settings))
     }
 
+    // Mostly there is room, and the row isn't read.
     #[inline(always)]
     fn prepare(_: &P::Settings, table: &mut Self::State, row: &Row) -> Result<(), OutOfMemory> {
-        let fields = unpack(row);
-        if P::looks_at(fields.kind) {
-            table.prepare(P::key(&fields))
-        } else {
-            Ok(())
+        if table.has_room() {
+            return Ok(());
         }
+        P::make_ready(table, row)
     }
 
     #[inline(always)]

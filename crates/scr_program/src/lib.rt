@@ -9,11 +9,11 @@
 //! **What a contract sees.** A program by six definitions over plain data: the row of a frame and a time, whether a
 //! state stands for a list of rows, the verdict of a row after a list, the count of entries after a list, whether a
 //! state is ready for a row, and the names of the verdicts. A table as the most flows that it holds, its flows with the
-//! most recently used first, and the key that is ready. specs/FlowList.antt says what setting a key leaves, and
+//! most recently used first, the key that is ready, and how many more keys memory was taken for. specs/FlowList.antt says what setting a key leaves, and
 //! specs/Folds.antt what a program is that is a step on such a list, and specs/Keyed.antt the step of one by key.
 //!
 //! **What is proved.** The table is the list of the definition, for each call and both answers; a refused call leaves
-//! the flows as they were, and a key that is a flow's, or is ready, is never refused. A row is the fields at their
+//! the flows as they were, and a key that is a flow's, or is ready, is never refused, nor is any where there is room. A row is the fields at their
 //! places, and is read back as these fields. A program by key meets the clauses of [`Program`], whichever it is; its
 //! crate proves only that its calls are its definitions.
 //!

@@ -1,4 +1,4 @@
-ghost use Rattle.std.specs.Prelude.{◌≡◌, ◌≤◌, ◌⊎◌, ◌+◌, ◌<◌, [], Option, None, length, slice_get, Some, IfOk, OnOk, OnErr, IsOk, IsSome, IfSome, MatchOption};
+ghost use Rattle.std.specs.Prelude.{◌≡◌, true, ◌≤◌, ◌⊎◌, ◌+◌, ◌<◌, [], Option, None, length, slice_get, Some, IfOk, OnOk, OnErr, IsOk, IsSome, IfSome, MatchOption};
 ghost use Rattle.std.specs.List.{IsDistinct};
 ghost use Rattle.std.specs.Map.{lookup, keys_of};
 ghost use Rattle.scr_flows.specs.Flows.{list_of, IsAbsent, IsAt};
@@ -16,8 +16,8 @@ pub const MOST_FLOWS: u32 = 65_536;
 
 /// The flows that were used last: a key and an entry each.
 ///
-/// A contract sees the most flows that there may be, the list of flows with the most recently used first, and the ready
-/// key, for which the memory of a [`FlowTable::set`] was taken before.
+/// A contract sees the most flows that there may be, the list of flows with the most recently used first, the ready key,
+/// for which the memory of a [`FlowTable::set`] was taken before, and how many more keys memory was taken for.
 #[derive(Drop)]
 pub struct FlowTable<K: FlowKey, V: Copy + Drop> {
     flows: Flows<K, V>,
@@ -37,17 +37,18 @@ impl<K: FlowKey, V: Copy + Drop> Model for FlowTable<K, V> {
 
     ghost coded = { table_code K.code V.code };
 
-    ghost view = { λ t. record { flows = t.flows.most; list = list_of t.flows; ready = ready_key t.flows t.likely t.apart t.ready } };
+    ghost view = { λ t. record { flows = t.flows.most; list = list_of t.flows; ready = ready_key t.flows t.likely t.apart t.ready; spare = t.flows.spare } };
 
     ghost invariant = { λ t. IsReady K.eq t.flows (ready_key t.flows t.likely t.apart t.ready) };
 }
 
 impl<K: FlowKey, V: Copy + Drop> FlowTable<K, V> {
-    /// An empty table that holds so many flows at most. No key is ready.
+    /// An empty table that holds so many flows at most. No key is ready, but memory is taken for one flow more than it holds.
     pub fn make(alloc: Global, flows: u32) -> Result<Self, OutOfMemory>
         requires some { 1 ≤ flows }
         requires few { flows ≤ MOST_FLOWS }
-        ensures { IfOk result (λ table. table ≡ record { flows = flows; list = []; ready = None }) }
+        ensures table { IfOk result (λ table. table ≡ record { flows = flows; list = []; ready = None; spare = table.spare }) }
+        ensures room { IfOk result (λ table. table.flows < table.spare) }
     {
         Ok(FlowTable {
             flows: Flows::make(alloc, flows)?,
@@ -74,11 +75,20 @@ impl<K: FlowKey, V: Copy + Drop> FlowTable<K, V> {
         self.flows.len()
     }
 
+    /// Whether memory was taken for one more key, whichever it is.
+    #[inline(always)]
+    pub fn has_room(&self) -> bool
+        ensures room { result ≡ true → 0 < self.now.spare }
+        ensures none { 0 < self.now.spare → result ≡ true }
+    {
+        self.flows.has_room()
+    }
+
     /// Gives a key this entry, and makes it the most recently used. In a full table the least recently used flow goes
     /// where the key is new. No key is ready afterwards.
     ///
     /// # Errors
-    /// The flows are as they were. A key that is a flow's, or is ready, meets no error.
+    /// The flows are as they were. A key that is a flow's, or is ready, meets no error, and none does where there is room.
     pub fn set(&mut self, key: K, entry: V) -> Result<(), OutOfMemory>
         ensures set { OnOk result (self.new.list ≡ set_key K.eq self.old.flows self.old.list key entry) }
         ensures err { OnErr result (self.new.list ≡ self.old.list) }
@@ -86,6 +96,7 @@ impl<K: FlowKey, V: Copy + Drop> FlowTable<K, V> {
         ensures ready { self.new.ready ≡ None }
         ensures known_succeeds { IsSome (lookup (K.eq key) self.old.list) → IsOk result }
         ensures ready_succeeds { self.old.ready ≡ Some key → IsOk result }
+        ensures room_succeeds { 0 < self.old.spare → IsOk result }
     {
         self.update(&key, |_| (entry, ()))
     }
@@ -109,6 +120,7 @@ impl<K: FlowKey, V: Copy + Drop> FlowTable<K, V> {
         ensures ready { self.new.ready ≡ None }
         ensures known_succeeds { IsSome (lookup (K.eq key.now) self.old.list) → IsOk result }
         ensures ready_succeeds { self.old.ready ≡ Some key.now → IsOk result }
+        ensures room_succeeds { 0 < self.old.spare → IsOk result }
     {
         self.ready = Ready::Nothing;
         let place = self.flows.find(self.likely, key);
@@ -135,6 +147,7 @@ impl<K: FlowKey, V: Copy + Drop> FlowTable<K, V> {
         ensures flows { self.new.flows ≡ self.old.flows }
         ensures known_succeeds { IsSome (lookup (K.eq key.now) self.old.list) → IsOk result }
         ensures ready_succeeds { self.old.ready ≡ Some key.now → IsOk result }
+        ensures room_succeeds { 0 < self.old.spare → IsOk result }
     {
         let place = self.flows.find(self.likely, key);
         let (after, told) = next(entry_at(&self.flows, place));
@@ -150,13 +163,14 @@ impl<K: FlowKey, V: Copy + Drop> FlowTable<K, V> {
     /// order stay as they are, also in a full table. A key that is a flow's needs none.
     ///
     /// # Errors
-    /// No key is ready then. A key that is a flow's, or is ready, meets no error.
+    /// No key is ready then. A key that is a flow's, or is ready, meets no error, and none does where there is room.
     #[inline(always)]
     pub fn prepare(&mut self, key: K) -> Result<(), OutOfMemory>
-        ensures ok { OnOk result (self.new ≡ record self.old { ready = Some key }) }
-        ensures err { OnErr result (self.new ≡ record self.old { ready = None }) }
+        ensures ok { OnOk result (self.new ≡ record self.old { ready = Some key; spare = self.new.spare }) }
+        ensures err { OnErr result (self.new ≡ record self.old { ready = None; spare = self.new.spare }) }
         ensures known_succeeds { IsSome (lookup (K.eq key) self.old.list) → IsOk result }
         ensures ready_succeeds { self.old.ready ≡ Some key → IsOk result }
+        ensures room_succeeds { 0 < self.old.spare → IsOk result }
     {
         let Some(place) = self.flows.find(self.likely, &key) else {
             return self.prepare_new(key);
@@ -171,9 +185,10 @@ impl<K: FlowKey, V: Copy + Drop> FlowTable<K, V> {
     #[inline(never)]
     fn prepare_new(&mut self, key: K) -> Result<(), OutOfMemory>
         requires { lookup (K.eq key) self.old.list ≡ None }
-        ensures ok { OnOk result (self.new ≡ record self.old { ready = Some key }) }
-        ensures err { OnErr result (self.new ≡ record self.old { ready = None }) }
+        ensures ok { OnOk result (self.new ≡ record self.old { ready = Some key; spare = self.new.spare }) }
+        ensures err { OnErr result (self.new ≡ record self.old { ready = None; spare = self.new.spare }) }
         ensures ready_succeeds { self.old.ready ≡ Some key → IsOk result }
+        ensures room_succeeds { 0 < self.old.spare → IsOk result }
     {
         self.ready = Ready::Nothing;
         self.flows.reserve()?;

@@ -1,4 +1,4 @@
-ghost use Rattle.std.specs.Prelude.{◌≡◌, IfOk, OnErr, IsOk, unwrap_or};
+ghost use Rattle.std.specs.Prelude.{◌≡◌, IfOk, OnOk, OnErr, IsOk, unwrap_or};
 ghost use Rattle.scr_program.proofs.Folds.{verdict_after-named};
 ghost use Rattle.scr_tables.specs.Rows.{fields_kept, row_of};
 ghost use Rattle.scr_tables.specs.State.{StandsFor as stands_for, IsReady as is_ready};
@@ -60,17 +60,17 @@ impl Program for Tables {
         FlowTable::make(alloc, settings.flows)
     }
 
+    // Mostly there is room, and the row isn't read.
+    #[inline(always)]
     fn prepare(
-        _settings: &TableSettings,
+        settings: &TableSettings,
         state: &mut Self::State,
         row: &Row,
     ) -> Result<(), OutOfMemory> {
-        let fields = unpack(row);
-        if is_packet(fields.kind) {
-            state.prepare(fields.source)
-        } else {
-            Ok(())
+        if state.has_room() {
+            return Ok(());
         }
+        make_ready(settings, state, row)
     }
 
     #[inline(always)]
@@ -97,6 +97,27 @@ impl Program for Tables {
             OTHER => Some("OTHER"),
             _ => None,
         }
+    }
+}
+
+// Makes the source of a row ready, among flows that have no room for any.
+#[cold]
+#[inline(never)]
+fn make_ready(
+    _settings: &TableSettings,
+    flows: &mut FlowTable<Address, u8>,
+    row: &Row,
+) -> Result<(), OutOfMemory>
+    ensures list { flows.new.list ≡ flows.old.list }
+    ensures flows { flows.new.flows ≡ flows.old.flows }
+    ensures ready { OnOk result (is_ready _settings.now flows.new row.now) }
+    ensures succeeds { is_ready _settings.now flows.old row.now → IsOk result }
+{
+    let fields = unpack(row);
+    if is_packet(fields.kind) {
+        flows.prepare(fields.source)
+    } else {
+        Ok(())
     }
 }
 

@@ -90,12 +90,27 @@ fn packets_go_home(rt: HostRuntime) -> Result<(), Fail> {
     for number in 1..=1_025u32 {
         out.take_back(encode(alloc, &Message::Beacon { number })?);
     }
-    take_home(&mut spent);
-    for number in 2..=1_024u32 {
+    for number in 1..=1_024u32 {
         let packet = spent.pop().ok().ok_or("a packet")?;
         assert!(rt; packet.bytes() == encode(alloc, &Message::Beacon { number })?.bytes());
     }
     assert!(rt; spent.pop().is_err(), "one that found no room is not there");
+    Ok(())
+}
+
+#[test]
+fn all_that_came_home_is_taken(rt: HostRuntime) -> Result<(), Fail> {
+    let alloc = rt.alloc();
+    let (mut first, home) = Returning::home(alloc, Vec::<Given>::new(alloc))?;
+    let (mut second, other) = Returning::home(alloc, Vec::<Given>::new(alloc))?;
+    for number in 1..=1_024u32 {
+        first.take_back(encode(alloc, &Message::Beacon { number })?);
+    }
+    second.take_back(encode(alloc, &Message::Beacon { number: 1 })?);
+    let mut spent = [home, other];
     take_home(&mut spent);
+    for home in &mut spent {
+        assert!(rt; home.pop().is_err(), "none is left");
+    }
     Ok(())
 }

@@ -42,11 +42,11 @@ impl Side {
         ]
     }
 
-    // Waits until so many of cores 0 and 1 have come, and tells whether they have.
-    fn waits_for(&self, cores: u32) -> bool {
+    // Waits until cores 0 and 1 have come, and tells whether they have.
+    fn waits_for_both(&self) -> bool {
         for _ in 0..TURNS {
             let [zero, one, _] = self.counts();
-            if zero >= 1 && (cores < 2 || one >= 1) {
+            if zero >= 1 && one >= 1 {
                 return true;
             }
             thread::yield_now();
@@ -55,10 +55,9 @@ impl Side {
     }
 }
 
-/// A gate of one or two cores. On either side each waits until all have come.
+/// A gate of two cores. On either side each waits until both have come.
 #[derive(Drop)]
 pub struct Meeting {
-    cores: u32,
     entered: Side,
     left: Side,
     missed: AtomicBool,
@@ -66,9 +65,8 @@ pub struct Meeting {
 }
 
 impl Meeting {
-    pub fn of(cores: u32) -> Meeting {
+    pub fn new() -> Meeting {
         Meeting {
-            cores,
             entered: Side::new(),
             left: Side::new(),
             missed: AtomicBool::new(false),
@@ -78,12 +76,12 @@ impl Meeting {
 
     fn wait_at(&self, side: &Side, core: u32) {
         side.count(core);
-        if !side.waits_for(self.cores) {
+        if !side.waits_for_both() {
             self.missed.store(true, Ordering::SeqCst);
         }
     }
 
-    /// Whether each core has met all others.
+    /// Whether each core that came has met the other.
     pub fn all_met(&self) -> bool {
         !self.missed.load(Ordering::SeqCst)
     }

@@ -22,6 +22,8 @@ enum Step {
     Update(Address, Option<u64>, Option<u64>),
     // So many flows have an entry.
     Len(u32),
+    // There is room for any key.
+    Room,
 }
 
 // Takes the steps with a new table of so many flows at most.
@@ -41,6 +43,7 @@ fn follow(rt: &impl Abort, alloc: Global, flows: u32, steps: &[Step]) -> Result<
                 assert_eq!(rt; table.update_where(&key, |known| (entry, known))?, known);
             }
             Step::Len(flows) => assert_eq!(rt; table.len(), flows),
+            Step::Room => assert!(rt; table.has_room()),
         }
     }
     Ok(())
@@ -122,6 +125,21 @@ fn a_ready_key_is_set(rt: HostRuntime) -> Result<(), OutOfMemory> {
         Step::Look(SECOND, Some(2)),
     ];
     follow(&rt, rt.alloc(), 1, &steps)
+}
+
+#[test]
+fn a_full_table_has_room(rt: HostRuntime) -> Result<(), OutOfMemory> {
+    let steps = [
+        Step::Room,
+        Step::Set(FIRST, 1),
+        Step::Set(SECOND, 2),
+        Step::Room,
+        Step::Prepare(FIRST_V6),
+        Step::Set(FIRST_V6, 3),
+        Step::Look(FIRST, None),
+        Step::Len(2),
+    ];
+    follow(&rt, rt.alloc(), 2, &steps)
 }
 
 #[test]
