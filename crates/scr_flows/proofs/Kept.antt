@@ -1,6 +1,6 @@
 -- What each call on flows leaves of their pairs and places.
 use Rattle.std.proofs.Common.{◌≡◌, ℕ, zero, suc, ◌+◌, ◌-◌, ◌<◌, ◌≤◌, Bool, true, List, [], ◌∷◌, ◌++◌, length, take, slice_get, slice_set, Option, Some, None, refl, sym, ap, ◌∙◌, subst, arith, Contains, ◌⊎◌, inl, inr, length-append}
-use Rattle.std.proofs.lemmas.List.{take_all, append-nil, length-set}
+use Rattle.std.proofs.lemmas.List.{take_all, append-nil}
 use Rattle.std.specs.Cmp.{IsEquivalence}
 use Rattle.std.specs.List.{IsDistinct, position, swap_remove}
 use Rattle.std.specs.Option.{IfSome, MatchOption}

@@ -1,10 +1,10 @@
 -- Links that lead through places, where one of them changes.
-use Rattle.std.proofs.Common.{◌≡◌, ◌≢◌, ℕ, zero, suc, ◌+◌, ◌<◌, List, [], ◌∷◌, ◌++◌, length, slice_index, slice_set, refl, sym, ap, ◌∙◌, subst, arith, Contains, ◌⊎◌, inl, inr}
+use Rattle.std.proofs.Common.{◌≡◌, ◌≢◌, ℕ, zero, suc, ◌+◌, ◌<◌, List, [], ◌∷◌, ◌++◌, length, slice_index, slice_set, refl, sym, ap, ◌∙◌, subst, arith, Contains}
 use Rattle.std.proofs.lemmas.List.{get_or-set_same, get_or-set_other, length-set}
 use Rattle.std.proofs.lemmas.List.Elements.{Contains-append_left}
 use Rattle.scr_flows.specs.Order.{walk}
 use Rattle.scr_flows.specs.Ring.{first_or, last_or, Leads, IsApart}
-use Rattle.scr_flows.proofs.Elements.{Contains-head, Contains-tail, Contains-cons, Contains-middle}
+use Rattle.scr_flows.proofs.Elements.{Contains-head, Contains-tail}
 
 -- a walk meets just the places through which the links lead
 pub walk-leads : (links : List ℕ) (place : ℕ) (places : List ℕ) (end : ℕ) → Leads links place places end → walk links place (length places) ≡ places

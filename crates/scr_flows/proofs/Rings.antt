@@ -1,10 +1,10 @@
 -- What is left of a ring where a place is taken out, or is put in front.
-use Rattle.std.proofs.Common.{◌≡◌, ◌≢◌, ℕ, zero, suc, ◌+◌, ◌-◌, ◌<◌, ◌≤◌, List, [], ◌∷◌, ◌++◌, length, reverse, slice_index, slice_set, refl, sym, ap, ◌∙◌, subst, arith, Contains, ◌⊎◌, inl, inr, append_assoc, length-append}
-use Rattle.std.proofs.lemmas.List.{get_or-set_same, get_or-set_other, length-set, reverse-append}
+use Rattle.std.proofs.Common.{◌≡◌, ◌≢◌, ℕ, ◌+◌, ◌-◌, ◌<◌, List, [], ◌∷◌, ◌++◌, length, reverse, slice_index, slice_set, sym, ap, ◌∙◌, subst, arith, Contains, inl, inr, append_assoc, length-append}
+use Rattle.std.proofs.lemmas.List.{get_or-set_same, length-set, reverse-append}
 use Rattle.std.proofs.lemmas.List.Elements.{Contains-append_left, Contains-append_right}
 use Rattle.scr_flows.specs.Order.{walk}
 use Rattle.scr_flows.specs.Ring.{first_or, last_or, Leads, IsApart, IsRing}
-use Rattle.scr_flows.proofs.Elements.{Contains-head, Contains-tail, Contains-cons, Contains-middle, Contains-with, Contains-reverse, first_or-reverse, last_or-reverse, apart-without, apart-at, apart-reverse}
+use Rattle.scr_flows.proofs.Elements.{Contains-head, Contains-tail, Contains-cons, Contains-with, Contains-reverse, first_or-reverse, last_or-reverse, apart-without, apart-reverse}
 use Rattle.scr_flows.proofs.Leads.{walk-leads, length-walk, last_or-in, first_or-in, leads-first, leads-at, leads-other, leads-from, leads-without, leads-push}
 
 module _ {older newer : List ℕ} {end : ℕ} {places : List ℕ} (ring : IsRing older newer end places) where

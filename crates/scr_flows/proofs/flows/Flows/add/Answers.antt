@@ -1,10 +1,10 @@
 -- The new flow has the place behind all, or that of the last, and comes to the front.
-use Rattle.std.proofs.Common.{rules, ◌≡◌, ◌∙◌, ◌<◌, ◌≤◌, ℕ, List, [], ◌∷◌, ◌++◌, length, take, slice_get, slice_set, arith, sym, ap, subst, Contains, None}
+use Rattle.std.proofs.Common.{rules, ◌≡◌, ◌∙◌, ◌<◌, ℕ, List, [], ◌∷◌, ◌++◌, length, take, slice_set, arith, sym, ap, subst, Contains, None}
 use Rattle.std.proofs.lemmas.List.{length-set}
 use Rattle.std.specs.List.{IsDistinct}
 use Rattle.std.specs.Map.{keys_of, lookup}
 use Rattle.indexmap.proofs.CallerLemmas.{insert_entry-new}
-use Rattle.scr_flows.specs.Flows.{Known, listed, list_of, IsKnown}
+use Rattle.scr_flows.specs.Flows.{Known, listed, list_of}
 use Rattle.scr_flows.specs.Order.{Places}
 use Rattle.scr_flows.proofs.Elements.{Contains-middle}
 use Rattle.scr_flows.proofs.Kept.{end-cut, place-within, taken-absent, taken-fits, used-known, pushed-absent, pushed-known, pushed-list, swapped, evicted-list}

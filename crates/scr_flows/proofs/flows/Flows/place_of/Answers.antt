@@ -1,5 +1,5 @@
 -- The map has each flow's key at its place.
-use Rattle.std.proofs.Common.{◌≡◌, subst}
+use Rattle.std.proofs.Common.{subst}
 use Rattle.std.specs.Option.{MatchOption}
 use Rattle.scr_flows.specs.Flows.{Known, IsAbsent, IsAt}
 use Rattle.scr_flows.proofs.Kept.{place-known}

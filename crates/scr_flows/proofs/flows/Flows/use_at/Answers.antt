@@ -1,10 +1,10 @@
 -- The entry is written, and the place comes to the front.
 use Rattle.std.proofs.Common.{rules, ◌≡◌, ◌∙◌, ◌<◌, ℕ, List, [], ◌∷◌, ◌++◌, length, take, slice_get, arith, sym, ap, subst, Contains}
 use Rattle.std.specs.List.{IsDistinct}
-use Rattle.std.specs.Map.{keys_of, remove_entry}
+use Rattle.std.specs.Map.{remove_entry}
 use Rattle.indexmap.specs.IndexMap.{set_value_at}
 use Rattle.indexmap.proofs.CallerLemmas.{keys-with_value_at, index_map_len-with_value_at}
-use Rattle.scr_flows.specs.Flows.{Known, listed, list_of, IsKnown}
+use Rattle.scr_flows.specs.Flows.{Known, listed, list_of}
 use Rattle.scr_flows.specs.Order.{Places}
 use Rattle.scr_flows.proofs.Kept.{cut-at, first-cut, taken-absent, taken-fits, used-known, used-taken}
 use Rattle.scr_flows.proofs.flows.Flows.use_at.Goals as goal

@@ -1,5 +1,5 @@
 -- The link of the bound to the newer leads to the last place.
-use Rattle.std.proofs.Common.{◌≡◌, ◌∙◌, arith}
+use Rattle.std.proofs.Common.{◌∙◌, arith}
 use Rattle.std.proofs.lemmas.List.{get_or_read}
 use Rattle.scr_flows.specs.Ring.{last_or}
 use Rattle.scr_flows.proofs.Rings.{ring-last}

@@ -1,6 +1,6 @@
 -- As many places are met as are counted.
-use Rattle.std.proofs.Common.{◌≡◌, ◌∙◌, ℕ, List, length, sym, ap}
-use Rattle.scr_flows.specs.Order.{Places, walk}
+use Rattle.std.proofs.Common.{◌∙◌, length, sym, ap}
+use Rattle.scr_flows.specs.Order.{Places}
 use Rattle.scr_flows.proofs.Leads.{length-walk}
 use Rattle.scr_flows.proofs.order.Order.len.Goals as goal
 

@@ -1,5 +1,5 @@
 -- The neighbours of the place are linked to each other.
-use Rattle.std.proofs.Common.{◌≡◌, ◌<◌, ◌∙◌, ◌∷◌, ◌++◌, ℕ, List, length, Contains, arith, sym, subst, ap, refl}
+use Rattle.std.proofs.Common.{◌≡◌, ◌∙◌, Contains, arith, sym, subst, ap, refl}
 use Rattle.std.proofs.lemmas.List.{get_or_read}
 use Rattle.scr_flows.specs.Order.{Places, walk}
 use Rattle.scr_flows.proofs.Elements.{Contains-cut}
