@@ -1,4 +1,4 @@
-ghost use Rattle.std.specs.Prelude.{◌≡◌, ◌≢◌, ◌⊎◌, ◌≤◌, ◌<◌, ◌+◌, ℕ, List, Bool, true, length, drop, Option, Some, None, Ok, Err, IfOk, IfErr, IfSome, OnErr};
+ghost use Rattle.std.specs.Prelude.{◌≡◌, ◌≢◌, ◌⊎◌, ◌≤◌, ◌<◌, ◌+◌, ℕ, List, Bool, true, length, drop, Option, Some, None, Ok, Err, IfOk, IfErr, IfSome, OnOk, OnErr};
 ghost use Rattle.std.specs.Io.KnownBytes.{IsAtEnd, prepend_known};
 ghost use Rattle.scr_pcap.specs.Header.{HEADER_SIZE, header_of, IsHeaderFault};
 ghost use Rattle.scr_pcap.specs.Records.{Record, RECORDS, CAPTURED, RECORD_HEADER_SIZE, TakesRecord, IsFaultyRest, IsRecordFault, rest_fault, captured_in};
@@ -33,12 +33,12 @@ pub enum Progress {
 /// What stands in front of a record's bytes.
 #[derive(Clone, Copy, Debug, PartialEq, Eq)]
 pub struct RecordInfo {
-    /// Its time in microseconds.
-    pub time: u64,
     /// The record's number, from 1.
     pub number: u32,
     /// Its captured length in bytes.
     pub length: u32,
+    /// Its time in microseconds.
+    pub time: u64,
 }
 
 /// Reads the records of a capture, one at a time.
@@ -173,7 +173,8 @@ impl Reader {
         ensures counts { CountsReadFault S.faults source.old source.new result }
     {
         if self.taken == LIMIT {
-            return self.take_end(source);
+            self.take_end(source)?;
+            return Ok(None);
         }
         let mut header = [0; RECORD_HEADER];
         let count = fill(source, &mut header)?;
@@ -194,10 +195,9 @@ impl Reader {
     // What stands behind the last record that is taken: the end, or a byte, which tells that there are too many.
     #[cold]
     #[inline(never)]
-    fn take_end<S: Source>(&self, source: &mut S) -> Result<Option<RecordInfo>, CaptureError>
+    fn take_end<S: Source>(&self, source: &mut S) -> Result<(), CaptureError>
         requires { self.now.taken ≡ RECORDS }
-        ensures no_record { IfOk result (λ next. next ≡ None) }
-        ensures end { result ≡ Ok None → IsAtEnd (S.left source.old) × IsAtEnd (S.left source.new) }
+        ensures end { OnOk result (IsAtEnd (S.left source.old) × IsAtEnd (S.left source.new)) }
         ensures faulty { IfErr result (λ error. error ≢ CaptureError.ReadFault
             → IfSome (S.left source.old) (λ bytes. IsFaultyRest self.now.format self.now.taken bytes error)) }
         ensures named { IfErr result (IsRecordFault self.now.taken) }
@@ -208,7 +208,7 @@ impl Reader {
         let mut byte = [0; 1];
         let count = fill(source, &mut byte)?;
         if count == 0 {
-            return Ok(None);
+            return Ok(());
         }
         Err(CaptureError::TooMany { limit: LIMIT })
     }

@@ -76,7 +76,8 @@ impl AnyReader {
     {
         match self {
             AnyReader::Classic(reader) => next_classic(reader, source, frame),
-            AnyReader::Blocks(reader) => reader.next(source, frame),
+            // By parts, so that a record of the other format needs no place in memory for what a call writes.
+            AnyReader::Blocks(reader) => Ok(reader.next(source, frame)?),
         }
     }
 }
